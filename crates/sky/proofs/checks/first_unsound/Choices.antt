@@ -1,0 +1,7 @@
+use Prim.Native.Nat.{ℕ, _<_}
+use Rattle.sky.specs.Directions.{Sound-at}
+use Rattle.sky.proofs.checks.first_unsound.Given as given
+
+-- each direction so far is sound
+abbrev pub Inv-loop-i : given.InvT-loop-i
+Inv-loop-i l = (k : ℕ) → k < l .i → Sound-at (l .numbers) k

@@ -1,0 +1,4 @@
+pub mod Directions
+pub mod Refusals
+pub mod Conditions
+pub mod Requests

@@ -1,0 +1,15 @@
+// Stars, spots and directions as they are lent, and the requests that are taken or turned away.
+pub mod checks;
+pub mod direction;
+pub mod limits;
+mod names;
+mod refusal;
+mod request;
+mod taken;
+
+pub use names::Spot;
+pub use names::Star;
+pub use refusal::Lent;
+pub use refusal::Refusal;
+pub use request::ApartRequest;
+pub use request::NameRequest;
