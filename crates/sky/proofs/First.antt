@@ -41,7 +41,7 @@ above m (c ∷ cs) o n p (inr h) = omega (arith, above (c .number) cs (o .1) n p
 next : (c : Condition) (cs : List Condition) (r s : Checked) → Rising (c .number) cs → Checks c r → Answers cs s → Answers (c ∷ cs) (andOther r s)
 next c cs (Err e) s o h k =
     record { holds = inl (sym (h .0), h .1); no-smaller = λ m q lt. ⊎-elim (λ i. omega arith) (λ i. omega (arith, above (c .number) cs o m q i)); no-earlier = λ q lt. ⊎-elim (λ i. h .2 q lt (i .1)) (λ i. omega (arith, above (c .number) cs o _ q i)) }
-next c cs (Ok u) (Ok v) o h k = λ n p. ⊎-elim (λ i. h p (i .1)) (k n p)
+next c cs (Ok u) (Ok v) o h k = record { none = λ n p. ⊎-elim (λ i. h p (i .1)) (k .none n p) }
 next c cs (Ok u) (Err e) o h k =
     record { holds = inr (k .holds); no-smaller = λ m q lt. ⊎-elim (λ i. h q (i .1)) (k .no-smaller m q lt); no-earlier = λ q lt. ⊎-elim (λ i. h q (i .1)) (k .no-earlier q lt) }
 
@@ -55,7 +55,7 @@ and-ok (Ok u) = refl
 and-ok (Err e) = refl
 
 answers : (c : Condition) (cs : List Condition) (r : Checked) (rs : List Checked) → Rising (c .number) cs → Each (c ∷ cs) (r ∷ rs) → Answers (c ∷ cs) (joined r rs)
-answers c [] r [] o h = subst (λ t. Answers (c ∷ []) t) (and-ok r) (next c [] r (Ok tt) o (h .0) (λ n p i. i))
+answers c [] r [] o h = subst (λ t. Answers (c ∷ []) t) (and-ok r) (next c [] r (Ok tt) o (h .0) (record { none = λ n p i. i }))
 answers c [] r (s ∷ rs) o h = absurd (h .1)
 answers c (d ∷ cs) r [] o h = absurd (h .1)
 answers c (d ∷ cs) r (s ∷ rs) o h =

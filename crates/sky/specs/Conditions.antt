@@ -76,8 +76,8 @@ Holds [] n p = ⊥
 Holds (c ∷ cs) n p = ((c .number ≡ n) × c .at p) ⊎ Holds cs n p
 
 -- none of the conditions holds anywhere
-abbrev pub Taken : List Condition → Type 0
-Taken cs = (n p : ℕ) → Holds cs n p → ⊥
+pub record None-holds (cs : List Condition) : Type 0 where
+  pub none : (n p : ℕ) → Holds cs n p → ⊥
 
 -- the first reason that applies: the condition with number n holds at place p, none with a smaller number holds anywhere, nor this one at an earlier place
 pub record Turned-away (cs : List Condition) (n p : ℕ) : Type 0 where
@@ -87,7 +87,7 @@ pub record Turned-away (cs : List Condition) (n p : ℕ) : Type 0 where
 
 -- what a check of all the conditions answers
 abbrev pub Answers : List Condition → Result Unit Refusal → Type 0
-Answers cs r = Cases r (λ _. Taken cs) (λ e. Turned-away cs (code e .0) (code e .1))
+Answers cs r = Cases r (λ _. None-holds cs) (λ e. Turned-away cs (code e .0) (code e .1))
 
 -- what a check of one condition answers
 abbrev pub Checks : Condition → Result Unit Refusal → Type 0

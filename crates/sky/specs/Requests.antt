@@ -1,15 +1,23 @@
 -- Which conditions each kind of request is held to, in the order of their numbers. Assumes nothing: these are definitions.
 use mathlib.Core.List.{List, [], _∷_}
+use Prim.Native.Nat.{ℕ}
 use Rattle.sky.specs.declared.request.NameRequest.{NameRequest}
 use Rattle.sky.specs.declared.request.ApartRequest.{ApartRequest}
 use Rattle.sky.specs.Conditions.{Condition, not-threes, star-count, spot-count, names-room, bad-star, bad-spot, error-too-large, none-too-large, group-size, rows-room}
 
--- a request to name the spots of a picture
-abbrev pub naming : NameRequest → List Condition
-naming q =
-    not-threes (q .stars .now) (q .spots .now) ∷ star-count (q .stars .now) ∷ spot-count (q .spots .now) ∷ names-room (q .spots .now) (q .names) ∷ bad-star (q .stars .now) ∷ bad-spot (q .spots .now) ∷ error-too-large (q .error) ∷ none-too-large (q .none) ∷ []
+-- naming the spots of a picture, with a room of this length for the names
+abbrev pub naming : (stars spots : List ℕ) (error none names : ℕ) → List Condition
+naming stars spots error none names =
+    not-threes stars spots ∷ star-count stars ∷ spot-count spots ∷ names-room spots names ∷ bad-star stars ∷ bad-spot spots ∷ error-too-large error ∷ none-too-large none ∷ []
 
--- a request to tell groups of stars apart: no spots are lent with it
-abbrev pub telling-apart : ApartRequest → List Condition
-telling-apart q =
-    not-threes (q .stars .now) [] ∷ star-count (q .stars .now) ∷ bad-star (q .stars .now) ∷ error-too-large (q .error) ∷ group-size (q .size) ∷ rows-room (q .size) (q .rows) ∷ []
+-- telling groups of k stars apart, with a room of this length for two rows: no spots are lent with it
+abbrev pub telling-apart : (stars : List ℕ) (error k rows : ℕ) → List Condition
+telling-apart stars error k rows =
+    not-threes stars [] ∷ star-count stars ∷ bad-star stars ∷ error-too-large error ∷ group-size k ∷ rows-room k rows ∷ []
+
+-- the same of the two requests
+abbrev pub name-conditions : NameRequest → List Condition
+name-conditions q = naming (q .stars .now) (q .spots .now) (q .error) (q .none) (q .names)
+
+abbrev pub apart-conditions : ApartRequest → List Condition
+apart-conditions q = telling-apart (q .stars .now) (q .error) (q .size) (q .rows)

@@ -2,10 +2,9 @@
 pub mod checks;
 pub mod direction;
 pub mod limits;
-mod names;
-mod refusal;
-mod request;
-mod taken;
+pub mod names;
+pub mod refusal;
+pub mod request;
 
 pub use names::Spot;
 pub use names::Star;

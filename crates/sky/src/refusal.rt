@@ -2,9 +2,9 @@
 ghost use mathlib.Core.Path.{_≡_};
 ghost use Rattle.sky.specs.Refusals.{code};
 use crate::names::Spot;
-use crate::names::Star;
 use crate::names::SpotDebug;
 use crate::names::SpotPartialEq;
+use crate::names::Star;
 use crate::names::StarDebug;
 use crate::names::StarPartialEq;
 
