@@ -1,4 +1,1 @@
 pub mod Directions
-pub mod Refusals
-pub mod Conditions
-pub mod Requests

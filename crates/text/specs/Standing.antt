@@ -4,9 +4,9 @@ use mathlib.Core.List.{List, []}
 use Prim.Native.Nat.{ℕ, _*_, min}
 use Rattle.std.specs.Of.Vec.{vec-items}
 use Rattle.sky.specs.Directions.{count}
-use Rattle.sky.specs.Refusals.{code}
-use Rattle.sky.specs.Conditions.{Condition, None-holds, Turned-away}
-use Rattle.sky.specs.Requests.{naming, telling-apart}
+use Rattle.requests.specs.Refusals.{code}
+use Rattle.requests.specs.Conditions.{Condition, None-holds, Turned-away}
+use Rattle.requests.specs.Requests.{naming, telling-apart}
 use Rattle.text.specs.declared.answer.Answer.{Answer}
 use Rattle.text.specs.declared.answer.Answer.the-variants.{Taken, Refused}
 use Rattle.text.specs.declared.directions.Directions.{Directions}

@@ -1,7 +1,7 @@
 // The answer to a request, and the line that is printed for it.
-use sky::Refusal;
-use sky::refusal::RefusalDebug;
-use sky::refusal::RefusalPartialEq;
+use requests::Refusal;
+use requests::refusal::RefusalDebug;
+use requests::refusal::RefusalPartialEq;
 use std::fmt;
 
 /// The answer to a request.

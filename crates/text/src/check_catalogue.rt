@@ -6,8 +6,8 @@ use crate::fault::Fault;
 use crate::fault::Found;
 use crate::program::Program;
 use crate::words::only_number;
-use sky::ApartRequest;
-use sky::limits::LARGEST_GROUP;
+use requests::ApartRequest;
+use requests::limits::LARGEST_GROUP;
 use std::alloc::Global;
 
 /// What stands: the catalogue so far, and the error.
@@ -49,7 +49,7 @@ impl CheckCatalogue {
             stars: self.stars.lent(),
             error: self.error,
             size,
-            rows: 2 * size.min(LARGEST_GROUP) as usize,
+            room: 2 * size.min(LARGEST_GROUP) as usize,
         };
         match request.check() {
             Ok(()) => Answer::Taken,

@@ -7,7 +7,7 @@ use crate::fault::Found;
 use crate::program::Program;
 use crate::words::end_of_line;
 use crate::words::only_number;
-use sky::NameRequest;
+use requests::NameRequest;
 use std::alloc::Global;
 
 /// What stands: the catalogue so far, the spots since the last request, the error, and how many
@@ -68,7 +68,7 @@ impl NamePictures {
             spots,
             error: self.error,
             none: self.none,
-            names: spots.len() / 3,
+            room: spots.len() / 3,
         };
         match request.check() {
             Ok(()) => Answer::Taken,

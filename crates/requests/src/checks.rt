@@ -3,14 +3,14 @@ ghost use mathlib.Core.Path.{_≡_};
 ghost use Prim.Native.Nat.{ℕ, _<_};
 ghost use lib.ListN.{length};
 ghost use Rattle.std.specs.Options.{Cases as BySome};
 ghost use Rattle.sky.specs.Directions.{count, Sound-at};
-ghost use Rattle.sky.specs.Conditions.{Checks, not-threes, star-count, spot-count, names-room, bad-star, bad-spot, error-too-large, none-too-large, group-size, rows-room, table-room};
-use crate::direction::is_direction;
+ghost use Rattle.requests.specs.Conditions.{Checks, not-threes, star-count, spot-count, names-room, bad-star, bad-spot, error-too-large, none-too-large, group-size, rows-room, table-room};
 use crate::limits::*;
-use crate::names::Spot;
-use crate::names::Star;
 use crate::refusal::Lent;
 use crate::refusal::Refusal;
+use sky::Spot;
+use sky::Star;
+use sky::direction::is_direction;
 
 /// 1: three numbers for each star, and three for each spot.
 pub fn threes(stars: &[u32], spots: &[u32]) -> Result<(), Refusal>

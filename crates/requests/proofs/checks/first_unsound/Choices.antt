@@ -1,6 +1,6 @@
 use Prim.Native.Nat.{ℕ, _<_}
 use Rattle.sky.specs.Directions.{Sound-at}
-use Rattle.sky.proofs.checks.first_unsound.Given as given
+use Rattle.requests.proofs.checks.first_unsound.Given as given
 
 -- each direction so far is sound
 abbrev pub Inv-loop-i : given.InvT-loop-i

@@ -1,12 +1,12 @@
 // The reasons for which a request is turned away.
 ghost use mathlib.Core.Path.{_≡_};
-ghost use Rattle.sky.specs.Refusals.{code};
-use crate::names::Spot;
-use crate::names::SpotDebug;
-use crate::names::SpotPartialEq;
-use crate::names::Star;
-use crate::names::StarDebug;
-use crate::names::StarPartialEq;
+ghost use Rattle.requests.specs.Refusals.{code};
+use sky::Spot;
+use sky::Star;
+use sky::names::SpotDebug;
+use sky::names::SpotPartialEq;
+use sky::names::StarDebug;
+use sky::names::StarPartialEq;
 
 /// A lent list of directions.
 #[derive(Clone, Copy, PartialEq, Eq, Debug)]

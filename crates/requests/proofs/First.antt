@@ -9,8 +9,8 @@ use lib.Dec.{lit<}
 use Rattle.std.specs.declared.result.Result.{Result}
 use Rattle.std.specs.declared.result.Result.the-variants.{Ok, Err}
 use Rattle.std.specs.Results.{andOther}
-use Rattle.sky.specs.declared.refusal.Refusal.{Refusal}
-use Rattle.sky.specs.Conditions.{Condition, Holds, Checks, Answers}
+use Rattle.requests.specs.declared.refusal.Refusal.{Refusal}
+use Rattle.requests.specs.Conditions.{Condition, Holds, Checks, Answers}
 
 abbrev Checked : Type 0
 Checked = Result Unit Refusal

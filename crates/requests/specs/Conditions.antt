@@ -6,9 +6,9 @@ use Prim.Native.Nat.{ℕ, _*_, _%_, _≤_, _<_}
 use lib.ListN.{length}
 use Rattle.std.specs.declared.result.Result.{Result}
 use Rattle.std.specs.Results.{Cases}
-use Rattle.sky.specs.declared.refusal.Refusal.{Refusal}
+use Rattle.requests.specs.declared.refusal.Refusal.{Refusal}
 use Rattle.sky.specs.Directions.{count, Sound-at}
-use Rattle.sky.specs.Refusals.{code}
+use Rattle.requests.specs.Refusals.{code}
 
 -- a condition on a request: its number, and the places at which it holds
 pub record Condition : Type 1 where

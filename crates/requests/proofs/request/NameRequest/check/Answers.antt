@@ -1,8 +1,8 @@
 use borrow.Author.Needs.{needs}
 use mathlib.Core.List.{[], _∷_}
-use Rattle.sky.specs.Requests.{name-conditions}
-use Rattle.sky.proofs.First.{in-order}
-use Rattle.sky.proofs.request.NameRequest.check.Needs as need
+use Rattle.requests.specs.Requests.{name-conditions}
+use Rattle.requests.proofs.First.{in-order}
+use Rattle.requests.proofs.request.NameRequest.check.Needs as need
 
 pub returns : need.returns
 returns c =

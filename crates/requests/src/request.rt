@@ -1,6 +1,6 @@
 // What is asked of the camera and of the ground tool, and whether it is taken.
-ghost use Rattle.sky.specs.Conditions.{Answers};
-ghost use Rattle.sky.specs.Requests.{name-conditions, apart-conditions};
+ghost use Rattle.requests.specs.Conditions.{Answers};
+ghost use Rattle.requests.specs.Requests.{name-conditions, apart-conditions};
 use crate::checks;
 use crate::refusal::Refusal;
 
@@ -14,7 +14,7 @@ pub struct NameRequest<'s, 'p> {
     /// How many spots may be no star.
     pub none: u64,
     /// How long the room for names is.
-    pub names: usize,
+    pub room: usize,
 }
 
 /// A request to tell groups of stars of a catalogue apart.
@@ -26,7 +26,7 @@ pub struct ApartRequest<'s> {
     /// How many stars a group has.
     pub size: u64,
     /// How long the room for two rows of stars is.
-    pub rows: usize,
+    pub room: usize,
 }
 
 impl NameRequest<'_, '_> {
@@ -37,7 +37,7 @@ impl NameRequest<'_, '_> {
         checks::threes(self.stars, self.spots)
             .and(checks::star_count(self.stars))
             .and(checks::spot_count(self.spots))
-            .and(checks::names_room(self.spots, self.names))
+            .and(checks::names_room(self.spots, self.room))
             .and(checks::sound_stars(self.stars))
             .and(checks::sound_spots(self.spots))
             .and(checks::error_limit(self.error))
@@ -55,6 +55,6 @@ impl ApartRequest<'_> {
             .and(checks::sound_stars(self.stars))
             .and(checks::error_limit(self.error))
             .and(checks::group_size(self.size))
-            .and(checks::rows_room(self.size, self.rows))
+            .and(checks::rows_room(self.size, self.room))
     }
 }

@@ -1,0 +1,4 @@
+pub mod Refusals
+pub mod Conditions
+pub mod Requests
+pub mod Promise
