@@ -74,9 +74,12 @@ pub impl Program for CheckCatalogue as CatalogueProgram {
         };
         match word {
             "star" => self.stars.add(words, "'star X Y Z' with whole numbers")?,
-            "error" => self.error = only_number(words, "'error E' with a whole number from 0 on")?,
+            "error" => self.error = only_number(
+                words,
+                "'error E' with one whole number from 0 on",
+            )?,
             "apart" => {
-                let size = only_number(words, "'apart K' with a whole number from 0 on")?;
+                let size = only_number(words, "'apart K' with one whole number from 0 on")?;
                 return Ok(Some(self.ask(size)));
             }
             _ if word.starts_with('#') => {}

@@ -6,4 +6,6 @@ pub mod fault;
 pub mod name_pictures;
 mod number;
 pub mod program;
+#[cfg(test)]
+mod tests;
 mod words;

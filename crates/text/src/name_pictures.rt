@@ -94,8 +94,11 @@ pub impl Program for NamePictures as PicturesProgram {
         match word {
             "star" => self.stars.add(words, "'star X Y Z' with whole numbers")?,
             "spot" => self.spots.add(words, "'spot X Y Z' with whole numbers")?,
-            "error" => self.error = only_number(words, "'error E' with a whole number from 0 on")?,
-            "none" => self.none = only_number(words, "'none Q' with a whole number from 0 on")?,
+            "error" => self.error = only_number(
+                words,
+                "'error E' with one whole number from 0 on",
+            )?,
+            "none" => self.none = only_number(words, "'none Q' with one whole number from 0 on")?,
             "name" => {
                 end_of_line(words, "'name' alone")?;
                 return Ok(Some(self.ask()));
