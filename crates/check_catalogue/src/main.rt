@@ -1,8 +1,8 @@
 // Checks whether the groups of stars of a catalogue can be told apart.
+use console::Stopped;
+use console::run;
 use text::check_catalogue::CatalogueProgram;
 use text::check_catalogue::CheckCatalogue;
-use text::program::Stopped;
-use text::program::run;
 
 fn main(rt: LibcRuntime) -> Result<(), Stopped> {
     run(&rt, &mut CheckCatalogue::new(rt.alloc()))
