@@ -18,25 +18,25 @@ fn print(rt: &LibcRuntime, name: &str, line: impl Display + Drop) -> Result<(), 
     match println!(rt, "{line}") {
         Ok(()) => Ok(()),
         Err(error) => {
-            let _ = eprintln!(rt, "{name}: an answer cannot be written: {error}");
+            let _ = eprintln!(rt, "{name}: standard output cannot be written: {error}");
             Err(Stopped)
         }
     }
 }
 
-/// Answers one line of a text.
+/// Answers one line of a text, which stands at a place such as `sky.txt, line 3`.
 fn answer_line<P: Program>(
     rt: &LibcRuntime,
     program: &mut P,
-    number: usize,
+    place: impl Display + Drop,
     line: &str,
 ) -> Result<(), Stopped> {
-    match program.take(line) {
+    match program.read_line(line) {
         Ok(None) => Ok(()),
         Ok(Some(answer)) => print(rt, program.name(), answer),
         Err(fault) => {
             let name = program.name();
-            let _ = eprintln!(rt, "{name}: line {number}: {fault}");
+            let _ = eprintln!(rt, "{name}: {place}: {fault}");
             Err(Stopped)
         }
     }
@@ -46,15 +46,24 @@ fn answer_line<P: Program>(
 fn answer_text<P: Program, R: Read + Drop>(
     rt: &LibcRuntime,
     program: &mut P,
+    source: &str,
     text: R,
 ) -> Result<(), Stopped> {
     for (i, line) in BufReader::new(text).lines(rt.alloc()).enumerate() {
         let number = i + 1;
         match line {
-            Ok(line) => answer_line(rt, program, number, line.as_str())?,
+            Ok(line) => answer_line(
+                rt,
+                program,
+                format_args!("{source}, line {number}"),
+                line.as_str(),
+            )?,
             Err(error) => {
                 let name = program.name();
-                let _ = eprintln!(rt, "{name}: line {number}: cannot be read: {error}");
+                let _ = eprintln!(
+                    rt,
+                    "{name}: {source}, line {number}: cannot be read: {error}"
+                );
                 return Err(Stopped);
             }
         }
@@ -65,7 +74,7 @@ fn answer_text<P: Program, R: Read + Drop>(
 /// Answers the text of a file.
 fn answer_file<P: Program>(rt: &LibcRuntime, program: &mut P, path: &str) -> Result<(), Stopped> {
     match File::open(rt, path) {
-        Ok(file) => answer_text(rt, program, file),
+        Ok(file) => answer_text(rt, program, path, file),
         Err(error) => {
             let name = program.name();
             let _ = eprintln!(rt, "{name}: {path} cannot be opened: {error}");
@@ -86,7 +95,7 @@ pub fn run<P: Program>(rt: &LibcRuntime, program: &mut P) -> Result<(), Stopped>
     };
     let _called_as = args.next();
     let Some(word) = args.next() else {
-        return answer_text(rt, program, rt.stdin());
+        return answer_text(rt, program, "standard input", rt.stdin());
     };
     if args.next().is_some() {
         let _ = eprintln!(rt, "{name}: expected one file at most; try {name} --help");
@@ -94,6 +103,10 @@ pub fn run<P: Program>(rt: &LibcRuntime, program: &mut P) -> Result<(), Stopped>
     }
     match word.as_str() {
         "--help" | "-h" => print(rt, name, program.usage()),
+        option if option.starts_with('-') => {
+            let _ = eprintln!(rt, "{name}: {option} is no option; try {name} --help");
+            Err(Stopped)
+        }
         path => answer_file(rt, program, path),
     }
 }

@@ -1,19 +1,13 @@
--- For what a request is turned away: the conditions by number, with their places, and which of an ordered list of them comes first. Assumes nothing: these are definitions.
+-- The conditions under which a request is turned away, by number, with their places. Assumes nothing: these are definitions.
 use mathlib.Core.Path.{_≡_}
-use mathlib.Core.List.{List, [], _∷_}
+use mathlib.Core.List.{List}
 use mathlib.Core.Logic.{_⊎_}
-use Prim.Native.Nat.{ℕ, _*_, _%_, _≤_, _<_}
+use Prim.Native.Nat.{ℕ, _*_, _%_, _<_}
 use lib.ListN.{length}
-use Rattle.std.specs.declared.result.Result.{Result}
-use Rattle.std.specs.Results.{Cases}
-use Rattle.requests.specs.declared.refusal.Refusal.{Refusal}
+use Rattle.std.specs.declared.option.Option.{Option}
+use Rattle.std.specs.declared.option.Option.the-variants.{Some, None}
 use Rattle.sky.specs.Directions.{count, Sound-at}
-use Rattle.requests.specs.Refusals.{code}
-
--- a condition on a request: its number, and the places at which it holds
-pub record Condition : Type 1 where
-  pub number : ℕ
-  pub at : ℕ → Type 0
+use Rattle.requests.specs.First.{Condition}
 
 -- numbers that are not three for each direction
 abbrev pub Uneven : List ℕ → Type 0
@@ -37,6 +31,11 @@ spot-count spots = record { number = 3; at = λ p. (p ≡ count spots) × (16 < 
 abbrev pub names-room : (spots : List ℕ) (room : ℕ) → Condition
 names-room spots room =
     record { number = 4; at = λ p. (p ≡ room) × (p ≡ count spots → ⊥) }
+
+-- none where each direction is sound, and else the first that is not
+abbrev pub First-unsound : List ℕ → Option ℕ → Type 0
+First-unsound ns None = (k : ℕ) → k < count ns → Sound-at ns k
+First-unsound ns (Some i) = (i < count ns) × (Sound-at ns i → ⊥) × ((k : ℕ) → k < i → Sound-at ns k)
 
 -- a star that is no direction: at the star
 abbrev pub bad-star : (stars : List ℕ) → Condition
@@ -69,27 +68,3 @@ rows-room k room =
 abbrev pub table-room : (needed room : ℕ) → Condition
 table-room needed room =
     record { number = 11; at = λ p. (p ≡ needed) × (room < needed) }
-
--- of a list of conditions, the one with number n holds at place p
-abbrev pub Holds : List Condition → ℕ → ℕ → Type 0
-Holds [] n p = ⊥
-Holds (c ∷ cs) n p = ((c .number ≡ n) × c .at p) ⊎ Holds cs n p
-
--- none of the conditions holds anywhere
-pub record None-holds (cs : List Condition) : Type 0 where
-  pub none : (n p : ℕ) → Holds cs n p → ⊥
-
--- the first reason that applies: the condition with number n holds at place p, none with a smaller number holds anywhere, nor this one at an earlier place
-pub record Turned-away (cs : List Condition) (n p : ℕ) : Type 0 where
-  pub holds : Holds cs n p
-  pub no-smaller : (m q : ℕ) → m < n → Holds cs m q → ⊥
-  pub no-earlier : (q : ℕ) → q < p → Holds cs n q → ⊥
-
--- what a check of all the conditions answers
-abbrev pub Answers : List Condition → Result Unit Refusal → Type 0
-Answers cs r = Cases r (λ _. None-holds cs) (λ e. Turned-away cs (code e .0) (code e .1))
-
--- what a check of one condition answers
-abbrev pub Checks : Condition → Result Unit Refusal → Type 0
-Checks c r =
-    Cases r (λ _. (p : ℕ) → c .at p → ⊥) (λ e. (code e .0 ≡ c .number) × c .at (code e .1) × ((q : ℕ) → q < code e .1 → c .at q → ⊥))

@@ -1,4 +1,5 @@
 pub mod Refusals
+pub mod First
 pub mod Conditions
 pub mod Requests
-pub mod Promise
+pub mod OneAnswer

@@ -1,12 +1,12 @@
 -- Each refusal's number, and the place that it speaks of. Assumes nothing: these are definitions.
 use Prim.Native.Nat.{ℕ}
-use Rattle.requests.specs.declared.refusal.Lent.{Lent}
-use Rattle.requests.specs.declared.refusal.Lent.the-variants.{Stars, Spots}
+use Rattle.requests.specs.declared.refusal.LentList.{LentList}
+use Rattle.requests.specs.declared.refusal.LentList.the-variants.{Stars, Spots}
 use Rattle.requests.specs.declared.refusal.Refusal.{Refusal}
 use Rattle.requests.specs.declared.refusal.Refusal.the-variants.{NotThrees, StarCount, SpotCount, NamesRoom, BadStar, BadSpot, ErrorTooLarge, NoneTooLarge, GroupSize, RowsRoom, TableRoom}
 
 -- the lists of directions count from 0: the stars, then the spots
-abbrev pub list-place : Lent → ℕ
+abbrev pub list-place : LentList → ℕ
 list-place Stars = 0
 list-place Spots = 1
 

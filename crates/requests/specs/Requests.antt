@@ -3,7 +3,8 @@ use mathlib.Core.List.{List, [], _∷_}
 use Prim.Native.Nat.{ℕ}
 use Rattle.requests.specs.declared.request.NameRequest.{NameRequest}
 use Rattle.requests.specs.declared.request.ApartRequest.{ApartRequest}
-use Rattle.requests.specs.Conditions.{Condition, not-threes, star-count, spot-count, names-room, bad-star, bad-spot, error-too-large, none-too-large, group-size, rows-room}
+use Rattle.requests.specs.First.{Condition}
+use Rattle.requests.specs.Conditions.{not-threes, star-count, spot-count, names-room, bad-star, bad-spot, error-too-large, none-too-large, group-size, rows-room}
 
 -- naming the spots of a picture, with a room of this length for the names
 abbrev pub naming : (stars spots : List ℕ) (error none room : ℕ) → List Condition

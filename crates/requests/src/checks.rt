@@ -1,12 +1,8 @@
 // One check for each condition under which a request is turned away.
-ghost use mathlib.Core.Path.{_≡_};
-ghost use Prim.Native.Nat.{ℕ, _<_};
-ghost use lib.ListN.{length};
-ghost use Rattle.std.specs.Options.{Cases as BySome};
-ghost use Rattle.sky.specs.Directions.{count, Sound-at};
-ghost use Rattle.requests.specs.Conditions.{Checks, not-threes, star-count, spot-count, names-room, bad-star, bad-spot, error-too-large, none-too-large, group-size, rows-room, table-room};
+ghost use Rattle.requests.specs.First.{Checks};
+ghost use Rattle.requests.specs.Conditions.{First-unsound, not-threes, star-count, spot-count, names-room, bad-star, bad-spot, error-too-large, none-too-large, group-size, rows-room, table-room};
 use crate::limits::*;
-use crate::refusal::Lent;
+use crate::refusal::LentList;
 use crate::refusal::Refusal;
 use sky::Spot;
 use sky::Star;
@@ -17,10 +13,14 @@ pub fn threes(stars: &[u32], spots: &[u32]) -> Result<(), Refusal>
     ensures { λ r. ⌜ Checks (not-threes (now (stars .entry)) (now (spots .entry))) r ⌝ }
 {
     if stars.len() % 3 != 0 {
-        return Err(Refusal::NotThrees { list: Lent::Stars });
+        return Err(Refusal::NotThrees {
+            list: LentList::Stars,
+        });
     }
     if spots.len() % 3 != 0 {
-        return Err(Refusal::NotThrees { list: Lent::Spots });
+        return Err(Refusal::NotThrees {
+            list: LentList::Spots,
+        });
     }
     Ok(())
 }
@@ -59,7 +59,7 @@ pub fn names_room(spots: &[u32], length: usize) -> Result<(), Refusal>
 
 /// The number of the first direction that is not sound.
 fn first_unsound(numbers: &[u32]) -> Option<usize>
-    ensures { λ r. ⌜ BySome r ((k : ℕ) → k < count (now (numbers .entry)) → Sound-at (now (numbers .entry)) k) (λ i. (i < count (now (numbers .entry))) × (Sound-at (now (numbers .entry)) i → ⊥) × ((k : ℕ) → k < i → Sound-at (now (numbers .entry)) k)) ⌝ }
+    ensures { λ r. ⌜ First-unsound (now (numbers .entry)) r ⌝ }
 {
     for i in 0..numbers.len() / 3 {
         if !is_direction(numbers[3 * i], numbers[3 * i + 1], numbers[3 * i + 2]) {

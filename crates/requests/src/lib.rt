@@ -1,11 +1,11 @@
 // Requests, and the first reason for which one is turned away.
 pub mod checks;
 pub mod limits;
-pub mod promise;
+pub mod one_answer;
 pub mod refusal;
 pub mod request;
 
-pub use refusal::Lent;
+pub use refusal::LentList;
 pub use refusal::Refusal;
 pub use request::ApartRequest;
 pub use request::NameRequest;
@@ -14,11 +14,11 @@ pub use request::NameRequest;
 mod tests {
     // Requests that are turned away, by example.
     use crate::ApartRequest;
-    use crate::Lent;
+    use crate::LentList;
     use crate::NameRequest;
     use crate::Refusal;
     use crate::checks::table_room;
-    use crate::refusal::LentDebug;
+    use crate::refusal::LentListDebug;
     use crate::refusal::RefusalDebug;
     use crate::refusal::RefusalPartialEq;
     use std::test::*;
@@ -47,11 +47,15 @@ mod tests {
     fn first_reason() -> Result<(), Fail> {
         check_eq(
             naming(&TWO[0..5], &TWO[0..4], 9),
-            Err(Refusal::NotThrees { list: Lent::Stars }),
+            Err(Refusal::NotThrees {
+                list: LentList::Stars,
+            }),
         )?;
         check_eq(
             naming(&TWO, &TWO[0..4], 9),
-            Err(Refusal::NotThrees { list: Lent::Spots }),
+            Err(Refusal::NotThrees {
+                list: LentList::Spots,
+            }),
         )?;
         check_eq(
             naming(&[], &[0; 51], 9),
@@ -84,6 +88,11 @@ mod tests {
     fn numbers_and_places() -> Result<(), Fail> {
         check_eq(Refusal::RowsRoom { length: 7 }.number(), 10)?;
         check_eq(Refusal::RowsRoom { length: 7 }.place(), 7)?;
-        check_eq(Refusal::NotThrees { list: Lent::Spots }.place(), 1)
+        check_eq(
+            Refusal::NotThrees {
+                list: LentList::Spots,
+            }.place(),
+            1,
+        )
     }
 }

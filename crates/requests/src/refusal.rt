@@ -3,14 +3,14 @@ ghost use mathlib.Core.Path.{_≡_};
 ghost use Rattle.requests.specs.Refusals.{code};
 use sky::Spot;
 use sky::Star;
-use sky::names::SpotDebug;
-use sky::names::SpotPartialEq;
-use sky::names::StarDebug;
-use sky::names::StarPartialEq;
+use sky::index::SpotDebug;
+use sky::index::SpotPartialEq;
+use sky::index::StarDebug;
+use sky::index::StarPartialEq;
 
 /// A lent list of directions.
 #[derive(Clone, Copy, PartialEq, Eq, Debug)]
-pub enum Lent {
+pub enum LentList {
     Stars,
     Spots,
 }
@@ -19,7 +19,7 @@ pub enum Lent {
 #[derive(Clone, Copy, PartialEq, Eq, Debug)]
 pub enum Refusal {
     /// 1: the numbers are not three for each direction of the list.
-    NotThrees { list: Lent },
+    NotThrees { list: LentList },
     /// 2: no star, or more than 400.
     StarCount { stars: usize },
     /// 3: more than 16 spots.
@@ -67,8 +67,12 @@ impl Refusal {
         ensures { λ r. ⌜ r ≡ code self .1 ⌝ }
     {
         match self {
-            Refusal::NotThrees { list: Lent::Stars } => 0,
-            Refusal::NotThrees { list: Lent::Spots } => 1,
+            Refusal::NotThrees {
+                list: LentList::Stars,
+            } => 0,
+            Refusal::NotThrees {
+                list: LentList::Spots,
+            } => 1,
             Refusal::StarCount { stars } => stars,
             Refusal::SpotCount { spots } => spots,
             Refusal::NamesRoom { length } => length,

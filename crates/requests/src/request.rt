@@ -1,5 +1,5 @@
 // What is asked of the camera and of the ground tool, and whether it is taken.
-ghost use Rattle.requests.specs.Conditions.{Answers};
+ghost use Rattle.requests.specs.First.{Answers};
 ghost use Rattle.requests.specs.Requests.{name-conditions, apart-conditions};
 use crate::checks;
 use crate::refusal::Refusal;

@@ -1,6 +1,6 @@
 // Stars, spots and directions.
 pub mod direction;
-pub mod names;
+pub mod index;
 
-pub use names::Spot;
-pub use names::Star;
+pub use index::Spot;
+pub use index::Star;

@@ -5,7 +5,7 @@ use Prim.Native.Nat.{ℕ, _*_, min}
 use Rattle.std.specs.Of.Vec.{vec-items}
 use Rattle.sky.specs.Directions.{count}
 use Rattle.requests.specs.Refusals.{code}
-use Rattle.requests.specs.Conditions.{Condition, None-holds, Turned-away}
+use Rattle.requests.specs.First.{Condition, None-holds, Turned-away}
 use Rattle.requests.specs.Requests.{naming, telling-apart}
 use Rattle.text.specs.declared.answer.Answer.{Answer}
 use Rattle.text.specs.declared.answer.Answer.the-variants.{Taken, Refused}

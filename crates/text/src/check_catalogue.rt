@@ -4,8 +4,8 @@ use crate::answer::Answer;
 use crate::directions::Directions;
 use crate::fault::Fault;
 use crate::fault::Found;
+use crate::line::only_number;
 use crate::program::Program;
-use crate::words::only_number;
 use requests::ApartRequest;
 use requests::limits::LARGEST_GROUP;
 use std::alloc::Global;
@@ -26,10 +26,11 @@ Reads FILE, or standard input, line by line:
   star X Y Z   one star more in the catalogue: its direction, whole numbers from -65535 to 65535
   error E      by how much the numbers of pairs may differ, 0 to 1000000; 0 at the start
   apart K      asks whether groups of K stars, 3 to 6, are told apart
-Empty lines and lines that begin with '#' are passed over.
+Empty lines and lines whose first word begins with '#' are passed over.
 
-Prints a line for each 'apart': 'taken', or 'refused N at P' with the number of the first reason
-against it and its place, counted from 0. A line that cannot be read ends the program with status 1.";
+Prints a line for each 'apart': 'refused N at P' with the number of the first reason against it and
+its place, counted from 0, or 'taken'. That says only that the request is in order: no groups are
+compared yet. A line that cannot be read ends the program with status 1.";
 
 impl CheckCatalogue {
     pub fn new(heap: Global) -> CheckCatalogue
@@ -42,7 +43,7 @@ impl CheckCatalogue {
     }
 
     /// The answer for groups of so many stars of the catalogue that stands.
-    fn ask(&self, size: u64) -> Answer
+    fn answer(&self, size: u64) -> Answer
         ensures { λ r. ⌜ Says (group-conditions (now (self .entry)) size) r ⌝ }
     {
         let request = ApartRequest {
@@ -67,7 +68,7 @@ pub impl Program for CheckCatalogue as CatalogueProgram {
         USAGE
     }
 
-    fn take<'w>(&mut self, line: &'w str) -> Result<Option<Answer>, Fault<'w>> {
+    fn read_line<'w>(&mut self, line: &'w str) -> Result<Option<Answer>, Fault<'w>> {
         let mut words = line.split_whitespace();
         let Some(word) = words.next() else {
             return Ok(None);
@@ -80,7 +81,7 @@ pub impl Program for CheckCatalogue as CatalogueProgram {
             )?,
             "apart" => {
                 let size = only_number(words, "'apart K' with one whole number from 0 on")?;
-                return Ok(Some(self.ask(size)));
+                return Ok(Some(self.answer(size)));
             }
             _ if word.starts_with('#') => {}
             _ => {

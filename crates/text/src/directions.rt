@@ -8,8 +8,8 @@ use crate::number::coordinate;
 use std::alloc::Global;
 use std::str::SplitWhitespace;
 
-/// The directions of the lines so far, three numbers each. From a line on that had not three, one
-/// number more, so that the list is turned away as it should be.
+/// The directions of the lines so far, three numbers each. After a line without three numbers the
+/// list keeps one number over, so that the check of the request turns it away.
 #[derive(Drop)]
 pub(crate) struct Directions {
     numbers: Vec<u32>,
@@ -56,6 +56,7 @@ impl Directions {
             }
             count = count.saturating_add(1);
         }
+        // A line before had not three numbers, and no later line makes up for it.
         if self.numbers.len() % 3 != 0 {
             return Ok(());
         }

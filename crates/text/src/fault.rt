@@ -8,7 +8,7 @@ pub enum Found<'w> {
     EndOfLine,
 }
 
-/// A line that cannot be read.
+/// Why the program cannot go on at a line.
 #[derive(Clone, Copy)]
 pub enum Fault<'w> {
     Unexpected {
@@ -27,11 +27,24 @@ pub impl fmt::Display for Found<'_> as FoundDisplay {
             return write!(f, "the end of the line");
         };
         f.write_char('\'')?;
-        for c in word.chars().take(SHOWN) {
-            f.write_char(if c.is_control() { '?' } else { c })?;
+        for (i, c) in word.chars().enumerate() {
+            if i == SHOWN {
+                f.write_str("...")?;
+                break;
+            }
+            show(c, f)?;
         }
         f.write_char('\'')
     }
+}
+
+/// A character, or its number where a terminal would not show it as it is.
+fn show<W: fmt::Write>(c: char, f: &mut fmt::Formatter<W>) -> fmt::Result {
+    if c.is_ascii_graphic() {
+        return f.write_char(c);
+    }
+    let code = u32::from(c);
+    write!(f, "\\u{{{code:x}}}")
 }
 
 pub impl fmt::Display for Fault<'_> as FaultDisplay {

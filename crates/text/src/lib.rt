@@ -3,6 +3,7 @@ pub mod answer;
 pub mod check_catalogue;
 mod directions;
 pub mod fault;
+mod line;
 pub mod name_pictures;
 mod number;
 pub mod program;
@@ -26,7 +27,7 @@ mod tests {
     // Whether the program can read none of the lines of a text.
     fn reads_none<P: Program>(program: &mut P, text: &str) -> bool {
         for line in text.lines() {
-            if program.take(line).is_ok() {
+            if program.read_line(line).is_ok() {
                 return false;
             }
         }
@@ -36,13 +37,13 @@ mod tests {
     #[test]
     fn a_picture_after_another(rt: LibcRuntime) -> Result<(), Fail> {
         let mut program = NamePictures::new(rt.alloc());
-        check(program.take("star 0 0 1000").is_ok())?;
-        check(program.take("spot 0 0 0").is_ok())?;
-        let Ok(Some(answer)) = program.take("name") else {
+        check(program.read_line("star 0 0 1000").is_ok())?;
+        check(program.read_line("spot 0 0 0").is_ok())?;
+        let Ok(Some(answer)) = program.read_line("name") else {
             return Err(Fail::new("no answer"));
         };
         check_eq(answer, Answer::Refused(Refusal::BadSpot { spot: Spot(0) }))?;
-        let Ok(Some(answer)) = program.take("name") else {
+        let Ok(Some(answer)) = program.read_line("name") else {
             return Err(Fail::new("no answer"));
         };
         check_eq(answer, Answer::Taken)
@@ -65,7 +66,7 @@ mod tests {
     #[test]
     fn what_was_expected(rt: LibcRuntime) -> Result<(), Fail> {
         let mut program = CheckCatalogue::new(rt.alloc());
-        let Err(fault) = program.take("spot 1 2 3") else {
+        let Err(fault) = program.read_line("spot 1 2 3") else {
             return Err(Fail::new("no fault"));
         };
         check_eq(
@@ -74,5 +75,3 @@ mod tests {
         )
     }
 }
-
-mod words;

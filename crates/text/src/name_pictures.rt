@@ -4,9 +4,9 @@ use crate::answer::Answer;
 use crate::directions::Directions;
 use crate::fault::Fault;
 use crate::fault::Found;
+use crate::line::end_of_line;
+use crate::line::only_number;
 use crate::program::Program;
-use crate::words::end_of_line;
-use crate::words::only_number;
 use requests::NameRequest;
 use std::alloc::Global;
 
@@ -31,10 +31,11 @@ Reads FILE, or standard input, line by line:
   error E      by how much the numbers of pairs may differ, 0 to 1000000; 0 at the start
   none Q       how many spots may be no star, 0 to 4; 0 at the start
   name         asks for the names of the spots since the last 'name'
-Empty lines and lines that begin with '#' are passed over.
+Empty lines and lines whose first word begins with '#' are passed over.
 
-Prints a line for each 'name': 'taken', or 'refused N at P' with the number of the first reason
-against it and its place, counted from 0. A line that cannot be read ends the program with status 1.";
+Prints a line for each 'name': 'refused N at P' with the number of the first reason against it and
+its place, counted from 0, or 'taken'. That says only that the request is in order: no names are
+found yet. A line that cannot be read ends the program with status 1.";
 
 impl NamePictures {
     pub fn new(heap: Global) -> NamePictures
@@ -49,7 +50,7 @@ impl NamePictures {
     }
 
     /// The answer for the picture that stands, after which the next picture begins.
-    fn ask(&mut self) -> Answer
+    fn answer_and_clear(&mut self) -> Answer
         ensures says { λ r. ⌜ Says (picture-conditions (now (self .entry))) r ⌝ }
         ensures next { λ _. ⌜ Next-picture (now (self .entry)) (now (self .exit)) ⌝ }
     {
@@ -86,7 +87,7 @@ pub impl Program for NamePictures as PicturesProgram {
         USAGE
     }
 
-    fn take<'w>(&mut self, line: &'w str) -> Result<Option<Answer>, Fault<'w>> {
+    fn read_line<'w>(&mut self, line: &'w str) -> Result<Option<Answer>, Fault<'w>> {
         let mut words = line.split_whitespace();
         let Some(word) = words.next() else {
             return Ok(None);
@@ -101,7 +102,7 @@ pub impl Program for NamePictures as PicturesProgram {
             "none" => self.none = only_number(words, "'none Q' with one whole number from 0 on")?,
             "name" => {
                 end_of_line(words, "'name' alone")?;
-                return Ok(Some(self.ask()));
+                return Ok(Some(self.answer_and_clear()));
             }
             _ if word.starts_with('#') => {}
             _ => {

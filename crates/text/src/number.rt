@@ -16,20 +16,19 @@ pub(crate) fn whole(word: &str) -> Option<u64> {
     Some(value)
 }
 
-/// A coordinate with its sign, as it is lent; 0, which is out of range too, where it is out of range.
+/// A coordinate with its sign, as it is lent. One out of range is lent as 0, which no coordinate
+/// is lent as, so that the check of the request turns it away.
 pub(crate) fn coordinate(word: &str) -> Option<u32> {
-    if let Some(digits) = word.strip_prefix('-') {
-        let size = whole(digits)?;
-        return Some(if size < 65_536 {
-            ORIGIN - size as u32
-        } else {
-            0
-        });
+    let below = word.strip_prefix('-');
+    let above = word.strip_prefix('+').unwrap_or(word);
+    let size = whole(below.unwrap_or(above))?;
+    if size >= u64::from(ORIGIN) {
+        return Some(0);
     }
-    let size = whole(word.strip_prefix('+').unwrap_or(word))?;
-    Some(if size < 65_536 {
-        ORIGIN + size as u32
+    let size = size as u32;
+    Some(if below.is_some() {
+        ORIGIN - size
     } else {
-        0
+        ORIGIN + size
     })
 }

@@ -1,4 +1,4 @@
-// What the programs have in common: they take a text line by line.
+// What the programs have in common: they read a text line by line.
 use crate::answer::Answer;
 use crate::fault::Fault;
 
@@ -10,6 +10,6 @@ pub trait Program {
     /// How the program is used.
     fn usage(&self) -> &'static str;
 
-    /// Takes the next line, and answers it if it is a request.
-    fn take<'w>(&mut self, line: &'w str) -> Result<Option<Answer>, Fault<'w>>;
+    /// Reads the next line, and answers it if it is a request.
+    fn read_line<'w>(&mut self, line: &'w str) -> Result<Option<Answer>, Fault<'w>>;
 }

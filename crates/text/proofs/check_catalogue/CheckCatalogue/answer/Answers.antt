@@ -1,4 +1,4 @@
-use Rattle.text.proofs.check_catalogue.CheckCatalogue.ask.Needs as need
+use Rattle.text.proofs.check_catalogue.CheckCatalogue.answer.Needs as need
 
 pub returns-in-Ok : need.returns-in-Ok
 returns-in-Ok c = simp (c .lent .ensures, c .min .ensures) at (c .in-Ok .ensures tt)

@@ -1,4 +1,4 @@
-// The words of a line, one after another.
+// What stands in a line behind its first word.
 use crate::fault::Fault;
 use crate::fault::Found;
 use crate::number::whole;

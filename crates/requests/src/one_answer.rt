@@ -1,5 +1,5 @@
-// What is promised of every request: each function has a theorem as its contract, and its value means nothing.
-ghost use Rattle.requests.specs.Promise.{Naming-has-one-answer, Telling-apart-has-one-answer};
+// That a request has one answer: each function has a theorem as its contract, and its value means nothing.
+ghost use Rattle.requests.specs.OneAnswer.{Naming-has-one-answer, Telling-apart-has-one-answer};
 
 /// A request to name spots has one answer.
 pub fn naming_has_one_answer() -> u8
