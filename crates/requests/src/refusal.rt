@@ -67,12 +67,10 @@ impl Refusal {
         ensures { λ r. ⌜ r ≡ code self .1 ⌝ }
     {
         match self {
-            Refusal::NotThrees {
-                list: LentList::Stars,
-            } => 0,
-            Refusal::NotThrees {
-                list: LentList::Spots,
-            } => 1,
+            Refusal::NotThrees { list } => match list {
+                LentList::Stars => 0,
+                LentList::Spots => 1,
+            },
             Refusal::StarCount { stars } => stars,
             Refusal::SpotCount { spots } => spots,
             Refusal::NamesRoom { length } => length,

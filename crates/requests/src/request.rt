@@ -1,6 +1,6 @@
 // What is asked of the camera and of the ground tool, and whether it is taken.
 ghost use Rattle.requests.specs.First.{Answers};
-ghost use Rattle.requests.specs.Requests.{name-conditions, apart-conditions};
+ghost use Rattle.requests.specs.Requests.{naming, telling-apart, name-conditions, apart-conditions};
 use crate::checks;
 use crate::refusal::Refusal;
 
@@ -34,14 +34,7 @@ impl NameRequest<'_, '_> {
     pub fn check(&self) -> Result<(), Refusal>
         ensures { λ r. ⌜ Answers (name-conditions (now (self .entry))) r ⌝ }
     {
-        checks::threes(self.stars, self.spots)
-            .and(checks::star_count(self.stars))
-            .and(checks::spot_count(self.spots))
-            .and(checks::names_room(self.spots, self.room))
-            .and(checks::sound_stars(self.stars))
-            .and(checks::sound_spots(self.spots))
-            .and(checks::error_limit(self.error))
-            .and(checks::none_limit(self.none))
+        naming_checks(self.stars, self.spots, self.error, self.none, self.room)
     }
 }
 
@@ -50,11 +43,38 @@ impl ApartRequest<'_> {
     pub fn check(&self) -> Result<(), Refusal>
         ensures { λ r. ⌜ Answers (apart-conditions (now (self .entry))) r ⌝ }
     {
-        checks::threes(self.stars, &[])
-            .and(checks::star_count(self.stars))
-            .and(checks::sound_stars(self.stars))
-            .and(checks::error_limit(self.error))
-            .and(checks::group_size(self.size))
-            .and(checks::rows_room(self.size, self.room))
+        apart_checks(self.stars, self.error, self.size, self.room)
     }
+}
+
+/// The checks for naming spots, in the order of their numbers.
+fn naming_checks(
+    stars: &[u32],
+    spots: &[u32],
+    error: u64,
+    none: u64,
+    room: usize,
+) -> Result<(), Refusal>
+    ensures { λ r. ⌜ Answers (naming (now (stars .entry)) (now (spots .entry)) error none room) r ⌝ }
+{
+    checks::threes(stars, spots)
+        .and(checks::star_count(stars))
+        .and(checks::spot_count(spots))
+        .and(checks::names_room(spots, room))
+        .and(checks::sound_stars(stars))
+        .and(checks::sound_spots(spots))
+        .and(checks::error_limit(error))
+        .and(checks::none_limit(none))
+}
+
+/// The checks for telling groups apart, in the order of their numbers.
+fn apart_checks(stars: &[u32], error: u64, size: u64, room: usize) -> Result<(), Refusal>
+    ensures { λ r. ⌜ Answers (telling-apart (now (stars .entry)) error size room) r ⌝ }
+{
+    checks::threes(stars, &[])
+        .and(checks::star_count(stars))
+        .and(checks::sound_stars(stars))
+        .and(checks::error_limit(error))
+        .and(checks::group_size(size))
+        .and(checks::rows_room(size, room))
 }
