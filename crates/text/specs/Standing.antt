@@ -38,13 +38,14 @@ pub record Next-picture (s t : NamePictures) : Type 0 where
   pub error : t .error ≡ s .error
   pub none : t .none ≡ s .none
 
--- nothing stands yet
+-- nothing stands yet, in the program that names pictures
 pub record No-picture (s : NamePictures) : Type 0 where
   pub stars : numbers (s .stars) ≡ []
   pub spots : numbers (s .spots) ≡ []
   pub error : s .error ≡ 0
   pub none : s .none ≡ 0
 
+-- nothing stands yet, in the program that checks catalogues
 pub record No-catalogue (s : CheckCatalogue) : Type 0 where
   pub stars : numbers (s .stars) ≡ []
   pub error : s .error ≡ 0
