@@ -1,0 +1,1 @@
+// What the proofs of several crates share: see proofs/. There is no code.

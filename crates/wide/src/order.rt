@@ -1,0 +1,41 @@
+// Numbers of two words compare by their values.
+ghost use mathlib.Core.Path.{_≡_};
+ghost use Prim.Native.Nat.{_<_};
+ghost use Rattle.std.specs.Options.{SomeBy};
+ghost use Rattle.std.specs.Orderings.{Decides, Ranked};
+ghost use Rattle.wide.specs.Value.{value};
+use crate::wide::Wide;
+use std::cmp::Ordering;
+
+/// How two numbers compare: by their high words, and then by their low ones.
+fn compare(a: Wide, b: Wide) -> Ordering
+    ensures { λ r. ⌜ Ranked r (value a < value b) (value a ≡ value b) (value b < value a) ⌝ }
+{
+    a.high.cmp(&b.high).then(a.low.cmp(&b.low))
+}
+
+pub impl PartialEq<Wide> for Wide as WidePartialEq {
+    ghost equals = { λ a b r. Decides r (value a ≡ value b) };
+
+    fn eq(&self, other: &Wide) -> bool {
+        compare(*self, *other).is_eq()
+    }
+}
+
+pub impl Eq for Wide as WideEq {}
+
+pub impl PartialOrd<Wide> for Wide as WidePartialOrd {
+    ghost compares = { λ a b r. SomeBy r (λ o. Ranked o (value a < value b) (value a ≡ value b) (value b < value a)) };
+
+    fn partial_cmp(&self, other: &Wide) -> Option<Ordering> {
+        Some(compare(*self, *other))
+    }
+}
+
+pub impl Ord for Wide as WideOrd {
+    ghost orders = { λ a b r. Ranked r (value a < value b) (value a ≡ value b) (value b < value a) };
+
+    fn cmp(&self, other: &Wide) -> Ordering {
+        compare(*self, *other)
+    }
+}
