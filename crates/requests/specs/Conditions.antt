@@ -6,7 +6,7 @@ use Prim.Native.Nat.{ℕ, _*_, _%_, _<_}
 use lib.ListN.{length}
 use Rattle.std.specs.declared.option.Option.{Option}
 use Rattle.std.specs.declared.option.Option.the-variants.{Some, None}
-use Rattle.sky.specs.Directions.{count, Sound-at}
+use Rattle.sky.specs.Lent.{count, Sound-at}
 use Rattle.requests.specs.First.{Condition}
 
 -- numbers that are not three for each direction

@@ -1,1 +1,5 @@
+pub mod Vectors
+pub mod Lent
 pub mod Directions
+pub mod Theorems
+pub mod Examples

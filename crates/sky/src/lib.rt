@@ -1,6 +1,12 @@
-// Stars, spots and directions.
+// Stars, spots and directions, and the number of a pair of directions.
 pub mod direction;
 pub mod index;
+pub mod pair;
+pub mod stars;
+pub mod theorems;
 
+pub use direction::Direction;
 pub use index::Spot;
 pub use index::Star;
+pub use stars::LentStars;
+pub use stars::Stars;

@@ -3,7 +3,7 @@ use mathlib.Core.Path.{_≡_}
 use mathlib.Core.List.{List, []}
 use Prim.Native.Nat.{ℕ, _*_, min}
 use Rattle.std.specs.Of.Vec.{vec-items}
-use Rattle.sky.specs.Directions.{count}
+use Rattle.sky.specs.Lent.{count}
 use Rattle.requests.specs.Refusals.{code}
 use Rattle.requests.specs.First.{Condition, None-holds, Turned-away}
 use Rattle.requests.specs.Requests.{naming, telling-apart}

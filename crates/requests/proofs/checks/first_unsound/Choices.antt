@@ -1,5 +1,5 @@
 use Prim.Native.Nat.{ℕ, _<_}
-use Rattle.sky.specs.Directions.{Sound-at}
+use Rattle.sky.specs.Lent.{Sound-at}
 use Rattle.requests.proofs.checks.first_unsound.Given as given
 
 -- each direction so far is sound

@@ -1,0 +1,4 @@
+pub mod Lent
+pub mod Pairs
+pub mod Sizes
+pub mod Steps

@@ -1,0 +1,6 @@
+use mathlib.Core.Path.{sym}
+use Rattle.sky.proofs.Lent.{vectors-length}
+use Rattle.sky.proofs.stars.LentStarsStars.count.Needs as need
+
+pub returns : need.returns
+returns c = sym (vectors-length (c .args .self .now .0 .now))

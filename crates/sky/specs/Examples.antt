@@ -1,0 +1,14 @@
+-- The worked examples that are theorems about the definitions. Assumes nothing.
+use mathlib.Core.Path.{_≡_}
+use Prim.Native.Nat.{ℕ}
+use lib.IntN.{pos}
+use Rattle.sky.specs.Vectors.{Vector, pair-number}
+
+abbrev pub v : ℕ → ℕ → ℕ → Vector
+v x y z = record { x = pos x; y = pos y; z = pos z }
+
+pub record Worked-examples : Type 0 where
+  pub right-angle : pair-number (v 0 0 1) (v 0 1 0) ≡ 16777216
+  pub same-direction : pair-number (v 0 0 1) (v 0 0 5) ≡ 0
+  pub half-a-right-angle : pair-number (v 1 0 1) (v 0 0 1) ≡ 8388608
+  pub diagonal-and-axis : pair-number (v 1 1 1) (v 1 0 0) ≡ 11184810
