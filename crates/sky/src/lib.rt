@@ -1,7 +1,9 @@
 // Stars, spots and directions, and the number of a pair of directions.
+mod cross;
 pub mod direction;
 pub mod index;
 pub mod pair;
+mod square;
 pub mod stars;
 pub mod theorems;
 

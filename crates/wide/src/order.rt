@@ -11,7 +11,13 @@ use std::cmp::Ordering;
 fn compare(a: Wide, b: Wide) -> Ordering
     ensures { λ r. ⌜ Ranked r (value a < value b) (value a ≡ value b) (value b < value a) ⌝ }
 {
-    a.high.cmp(&b.high).then(a.low.cmp(&b.low))
+    if a.high < b.high || (a.high == b.high && a.low < b.low) {
+        Ordering::Less
+    } else if a.high == b.high && a.low == b.low {
+        Ordering::Equal
+    } else {
+        Ordering::Greater
+    }
 }
 
 pub impl PartialEq<Wide> for Wide as WidePartialEq {

@@ -3,7 +3,7 @@ use native.Mathlib.Nat.{mul-le-mul}
 use native.Mathlib.Omega.{arith}
 use Rattle.sky.proofs.Lent.{lent-most}
 use Rattle.sky.proofs.Steps.{component-is}
-use Rattle.sky.proofs.pair.component.Needs as need
+use Rattle.sky.proofs.cross.component.Needs as need
 
 pub add-a : need.add-a
 add-a c =
