@@ -33,6 +33,16 @@ pub square-is : (a : ℤ) → a *ℤ a ≡ pos (natAbs a * natAbs a)
 square-is (pos n) = refl
 square-is (negsuc n) = refl
 
+abs-neg : (n : ℕ) → natAbs (negℤ (pos n)) ≡ n
+abs-neg zero = refl
+abs-neg (suc n) = refl
+
+pub product-amount : (a b : ℤ) → natAbs (a *ℤ b) ≡ natAbs a * natAbs b
+product-amount (pos a) (pos b) = refl
+product-amount (pos a) (negsuc b) = abs-neg (a * suc b)
+product-amount (negsuc a) (pos b) = abs-neg (suc a * b)
+product-amount (negsuc a) (negsuc b) = refl
+
 -- how far two numbers are apart, whichever is larger
 pub difference-amount : (a b : ℕ) → natAbs (pos a -ℤ pos b) ≡ (a - b) + (b - a)
 difference-amount a b = omega (arith, ints)

@@ -26,12 +26,9 @@ vectors-at ns i h = getD-map-counting (vector-at ns) 0 (count ns) i i nowhere h 
 pub vectors-past : (ns : List ℕ) (i : ℕ) → count ns ≤ i → star-at (vectors ns) i ≡ nowhere
 vectors-past ns i h = getD-past (vectors ns) i nowhere (omega (arith, vectors-length ns))
 
-pub lent-most : (n : ℕ) → In-range (coordinate n) → n ≤ 131071
-lent-most n h = omega (arith, ints)
-
 -- what three lent numbers are made into is the direction with their number
 pub direction-at : (ns : List ℕ) (i : ℕ) (r : Option Direction) → i < count ns
-    → Cases r (Sound-at ns i → ⊥) (λ d. Sound-at ns i × (d .x ≡ getD ns (3 * i) 0) × (d .y ≡ getD ns (3 * i + 1) 0) × (d .z ≡ getD ns (3 * i + 2) 0))
+    → Cases r (Sound-at ns i → ⊥) (λ d. Sound-at ns i × (d .x ≡ vector-at ns i .x) × (d .y ≡ vector-at ns i .y) × (d .z ≡ vector-at ns i .z))
     → Direction-at (vectors ns) i r
 direction-at ns i None h k = λ s. k (subst Sound (vectors-at ns i h) s)
 direction-at ns i (Some d) h k =

@@ -5,13 +5,12 @@ use Prim.Native.Nat.{ℕ}
 use lib.ListN.{getD}
 use Rattle.std.specs.Options.{Cases}
 use Rattle.std.specs.declared.option.Option.{Option}
-use Rattle.sky.specs.Vectors.{Vector, Sound, nowhere, pair-number}
-use Rattle.sky.specs.Lent.{lent}
+use Rattle.sky.specs.Vectors.{Vector, vec, Sound, nowhere, pair-number}
 use Rattle.sky.specs.declared.direction.Direction.{Direction}
 
 -- the vector of a direction
 abbrev pub vector : Direction → Vector
-vector d = lent (d .x) (d .y) (d .z)
+vector d = vec (d .x) (d .y) (d .z)
 
 -- the vector with number i, of a list
 abbrev pub star-at : List Vector → ℕ → Vector

@@ -2,10 +2,10 @@
 use mathlib.Core.Path.{_≡_}
 use Prim.Native.Nat.{ℕ}
 use lib.IntN.{pos}
-use Rattle.sky.specs.Vectors.{Vector, pair-number}
+use Rattle.sky.specs.Vectors.{Vector, vec, pair-number}
 
 abbrev pub v : ℕ → ℕ → ℕ → Vector
-v x y z = record { x = pos x; y = pos y; z = pos z }
+v x y z = vec (pos x) (pos y) (pos z)
 
 pub record Worked-examples : Type 0 where
   pub right-angle : pair-number (v 0 0 1) (v 0 1 0) ≡ 16777216

@@ -4,7 +4,7 @@ use Prim.Native.Nat.{ℕ, _+_, _*_, _/_}
 use lib.IntN.{ℤ, pos, _-ℤ_}
 use lib.ListN.{length, getD}
 use Rattle.std.specs.Iters.{counting}
-use Rattle.sky.specs.Vectors.{Vector, Sound}
+use Rattle.sky.specs.Vectors.{Vector, vec, Sound}
 
 -- a coordinate is lent with 65,536 added
 abbrev pub coordinate : ℕ → ℤ
@@ -12,7 +12,7 @@ coordinate n = pos n -ℤ pos 65536
 
 -- the vector that three numbers are lent for
 abbrev pub lent : (x y z : ℕ) → Vector
-lent x y z = record { x = coordinate x; y = coordinate y; z = coordinate z }
+lent x y z = vec (coordinate x) (coordinate y) (coordinate z)
 
 -- how many vectors a list of lent numbers holds
 abbrev pub count : List ℕ → ℕ

@@ -8,6 +8,9 @@ pub record Vector : Type 0 where
   pub y : ℤ
   pub z : ℤ
 
+abbrev pub vec : (x y z : ℤ) → Vector
+vec x y z = record { x = x; y = y; z = z }
+
 -- a coordinate of a direction: from -65,535 to 65,535
 abbrev pub In-range : ℤ → Type 0
 In-range a = natAbs a ≤ 65535
@@ -19,7 +22,7 @@ Sound v =
 
 -- what stands for a vector where there is none
 abbrev pub nowhere : Vector
-nowhere = record { x = pos 0; y = pos 0; z = pos 0 }
+nowhere = vec (pos 0) (pos 0) (pos 0)
 
 unfoldable pub square : ℤ → ℕ
 square a = natAbs a * natAbs a
@@ -31,7 +34,7 @@ length² v = square (v .x) + (square (v .y) + square (v .z))
 -- the cross product
 unfoldable pub cross : Vector → Vector → Vector
 cross v w =
-    record { x = v .y *ℤ w .z -ℤ v .z *ℤ w .y; y = v .z *ℤ w .x -ℤ v .x *ℤ w .z; z = v .x *ℤ w .y -ℤ v .y *ℤ w .x }
+    vec (v .y *ℤ w .z -ℤ v .z *ℤ w .y) (v .z *ℤ w .x -ℤ v .x *ℤ w .z) (v .x *ℤ w .y -ℤ v .y *ℤ w .x)
 
 -- the number of a pair: the square of the sine of the angle between the two, in parts of 2^24 = 16777216, rounded down
 unfoldable pub pair-number : Vector → Vector → ℕ

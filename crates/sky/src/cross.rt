@@ -1,32 +1,36 @@
 // The square of the length of a cross product.
 ghost use mathlib.Core.Path.{_≡_};
-ghost use Prim.Native.Nat.{_+_, _*_, _<_, _^_};
+ghost use Prim.Native.Nat.{_+_, _*_, _≤_, _<_, _^_};
 ghost use lib.IntN.{_-ℤ_, _*ℤ_, natAbs};
 ghost use Rattle.wide.specs.Value.{value};
 ghost use Rattle.sky.specs.Directions.{vector};
-ghost use Rattle.sky.specs.Lent.{coordinate};
 ghost use Rattle.sky.specs.Squares.{squared};
 ghost use Rattle.sky.specs.Vectors.{In-range, length², cross};
 use crate::direction::Direction;
-use crate::direction::ORIGIN;
 use crate::square::Square;
 use wide::Wide;
 
-/// What a b less c d is in amount, of four coordinates as they are lent: a component of a cross product.
-fn component(a: u32, b: u32, c: u32, d: u32) -> u64
-    requires { ⌜ In-range (coordinate a) × In-range (coordinate b) × In-range (coordinate c) × In-range (coordinate d) ⌝ }
-    ensures amount { λ r. ⌜ r ≡ natAbs (coordinate a *ℤ coordinate b -ℤ coordinate c *ℤ coordinate d) ⌝ }
-    ensures bound { λ r. ⌜ r < 2 ^ 35 ⌝ }
+/// The product of two coordinates.
+fn times(a: i32, b: i32) -> i64
+    requires { ⌜ In-range a × In-range b ⌝ }
+    ensures value { λ r. ⌜ r ≡ a *ℤ b ⌝ }
+    ensures bound { λ r. ⌜ natAbs r ≤ 4294836225 ⌝ }
 {
-    let (a, b, c, d) = (a as u64, b as u64, c as u64, d as u64);
-    let origin = ORIGIN as u64;
-    // Each side has the same terms more, so that neither is below 0.
-    (a * b + (c + d) * origin).abs_diff(c * d + (a + b) * origin)
+    a as i64 * b as i64
+}
+
+/// What a b less c d is in amount: a component of a cross product.
+fn component(a: i32, b: i32, c: i32, d: i32) -> u64
+    requires { ⌜ In-range a × In-range b × In-range c × In-range d ⌝ }
+    ensures amount { λ r. ⌜ r ≡ natAbs (a *ℤ b -ℤ c *ℤ d) ⌝ }
+    ensures bound { λ r. ⌜ r < 2 ^ 34 ⌝ }
+{
+    (times(a, b) - times(c, d)).unsigned_abs()
 }
 
 /// The square of a component, by its digits of 17 bits.
 fn square_of(component: u64) -> Square
-    requires { ⌜ component < 2 ^ 35 ⌝ }
+    requires { ⌜ component < 2 ^ 34 ⌝ }
     ensures { λ r. ⌜ squared r ≡ component * component ⌝ }
 {
     let (c1, c0) = (component / 0x2_0000, component % 0x2_0000);

@@ -1,30 +1,22 @@
 // The number of a pair of directions.
 ghost use mathlib.Core.Path.{_≡_};
 ghost use Prim.Native.Nat.{_≤_};
-ghost use lib.IntN.{natAbs};
 ghost use Rattle.sky.specs.Directions.{vector, Number-at};
-ghost use Rattle.sky.specs.Lent.{coordinate};
 ghost use Rattle.sky.specs.Vectors.{length², pair-number};
 use crate::cross::scaled_cross;
 use crate::direction::Direction;
-use crate::direction::ORIGIN;
 use crate::index::Star;
 use crate::stars::Stars;
 use wide::Divisor;
 use wide::Wide;
 
-/// What a coordinate that is lent as `n` is in amount.
-fn amount(n: u32) -> u64
-    ensures { λ r. ⌜ r ≡ natAbs (coordinate n) ⌝ }
-{
-    n.abs_diff(ORIGIN) as u64
-}
-
 /// The sum of the squares of a direction's coordinates; below 2^34.
 fn length_squared(d: Direction) -> u64
     ensures { λ r. ⌜ r ≡ length² (vector d) ⌝ }
 {
-    let (x, y, z) = (amount(d.x), amount(d.y), amount(d.z));
+    let x = d.x.unsigned_abs() as u64;
+    let y = d.y.unsigned_abs() as u64;
+    let z = d.z.unsigned_abs() as u64;
     x * x + (y * y + z * z)
 }
 

@@ -1,26 +1,17 @@
-use mathlib.Core.Path.{sym, _∙_}
-use native.Mathlib.Nat.{mul-le-mul}
+use mathlib.Core.Path.{_≡_, _∙_, ap₂}
 use native.Mathlib.Omega.{arith}
-use Rattle.sky.proofs.Lent.{lent-most}
-use Rattle.sky.proofs.Steps.{component-is}
+use lib.IntN.{_-ℤ_, _*ℤ_, natAbs}
+use Rattle.sky.proofs.Signed.{coordinate-32, product-64, difference-bound, difference-fits, difference-64}
 use Rattle.sky.proofs.cross.component.Needs as need
 
-pub add-a : need.add-a
-add-a c =
-    let p = lent-most (c .args .a) (c .pre .0) in
-    let q = lent-most (c .args .b) (c .pre .1) in
-    omega (arith, mul-le-mul p q, lent-most (c .args .c) (c .pre .2), lent-most (c .args .d) (c .pre .3))
-
-pub add-c-2 : need.add-c-2
-add-c-2 c =
-    let p = lent-most (c .args .c) (c .pre .2) in
-    let q = lent-most (c .args .d) (c .pre .3) in
-    omega (arith, mul-le-mul p q, lent-most (c .args .a) (c .pre .0), lent-most (c .args .b) (c .pre .1))
+pub sub-times : need.sub-times
+sub-times c =
+    simp (product-64 (c .times .result) (c .times .ensures .bound), product-64 (c .times-2 .result) (c .times-2 .ensures .bound))
+    (difference-fits (c .times .result) (c .times-2 .result) (c .times .ensures .bound) (c .times-2 .ensures .bound))
 
 pub returns : need.returns
 returns c =
-    let p = lent-most (c .args .a) (c .pre .0) in
-    let q = lent-most (c .args .b) (c .pre .1) in
-    let r = lent-most (c .args .c) (c .pre .2) in
-    let s = lent-most (c .args .d) (c .pre .3) in
-    record { amount = c .abs-diff .ensures ∙ sym (component-is (c .args .a) (c .args .b) (c .args .c) (c .args .d)); bound = omega (arith, mul-le-mul p q, mul-le-mul r s) }
+    let e : c .unsigned-abs .result ≡ natAbs (c .times .result -ℤ c .times-2 .result) = simp (product-64 (c .times .result) (c .times .ensures .bound), product-64 (c .times-2 .result) (c .times-2 .ensures .bound), difference-64 (c .times .result) (c .times-2 .result) (c .times .ensures .bound) (c .times-2 .ensures .bound)) at (c .unsigned-abs .ensures .value) in
+    let p : c .times .result ≡ c .args .a *ℤ c .args .b = simp (coordinate-32 (c .args .a) (c .pre .0), coordinate-32 (c .args .b) (c .pre .1)) at (c .times .ensures .value) in
+    let q : c .times-2 .result ≡ c .args .c *ℤ c .args .d = simp (coordinate-32 (c .args .c) (c .pre .2), coordinate-32 (c .args .d) (c .pre .3)) at (c .times-2 .ensures .value) in
+    record { amount = e ∙ ap₂ (λ s t. natAbs (s -ℤ t)) p q; bound = omega (arith, difference-bound (c .times .result) (c .times-2 .result) (c .times .ensures .bound) (c .times-2 .ensures .bound)) }
