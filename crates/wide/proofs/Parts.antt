@@ -27,15 +27,12 @@ module _ (n d t i m : ℕ) (p : 0 < d) (h : d ≤ t * 2 ^ i) (l : m ≡ n / 2 ^ 
       let f : 1 ≤ v / t = le-div 1 v t t-positive (omega arith) in
       record { some = omega (arith, mul-le-mul-right s f); fits = subst (λ w. w * d ≤ n) (sym e) (goes-into v s k) }
 
--- ---- a turn: with p more in the quotient, what is left is less by p d
-module _ (n d q r p m : ℕ) (z : 0 < d) (h : q * d + r ≡ n) (t : Part r d p) (e : m ≡ p * d) where
-  pub enough : r < m → ⊥
-  enough k = omega (arith, t .fits)
-
-  pub room : (b : ℕ) → n < b → b ≤ q + p → ⊥
+-- ---- with p more in the quotient, p d less is left
+module _ (d q r p m : ℕ) (z : 0 < d) (t : Part r d p) (e : m ≡ p * d) where
+  pub room : (b : ℕ) → q * d + r < b → b ≤ q + p → ⊥
   room b k l = omega (arith, t .fits, mul-le-mul-right d l, mul-le-mul-left b z)
 
-  pub again : (q₂ r₂ : ℕ) → r₂ + m ≡ r → q₂ ≡ q + p → q₂ * d + r₂ ≡ n
+  pub again : (q₂ r₂ : ℕ) → r₂ + m ≡ r → q₂ ≡ q + p → q₂ * d + r₂ ≡ q * d + r
   again q₂ r₂ f g = omega (arith, ap (λ v. v * d) g)
 
   pub less : (r₂ : ℕ) → r₂ + m ≡ r → r₂ < r

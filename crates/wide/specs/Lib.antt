@@ -1,3 +1,4 @@
 pub mod Value
 pub mod Divided
+pub mod Dividend
 pub mod Leading

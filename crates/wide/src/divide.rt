@@ -4,6 +4,7 @@ ghost use Prim.Native.Nat.{_*_, _≤_, _<_, _^_};
 ghost use Rattle.std.specs.Options.{Cases};
 ghost use Rattle.wide.specs.Value.{value};
 ghost use Rattle.wide.specs.Divided.{Divided, Part};
+ghost use Rattle.wide.specs.Dividend.{dividend};
 use crate::divisor::Divisor;
 use crate::order::WidePartialEq;
 use crate::order::WidePartialOrd;
@@ -11,8 +12,6 @@ use crate::wide::Wide;
 use crate::wide::WideDebug;
 
 const ZERO: Wide = Wide { high: 0, low: 0 };
-
-const ONE: Wide = Wide { high: 0, low: 1 };
 
 /// How often a divisor goes into a number, and what is left.
 #[derive(Clone, Copy, Debug)]
@@ -33,53 +32,83 @@ fn times(a: Wide, b: Wide) -> Wide
     }
 }
 
-/// A part of the quotient, from the leading bits alone. It is mostly the whole of its first 32 bits.
-fn part_of_quotient(number: Wide, divisor: Divisor) -> Wide
-    requires { ⌜ value (divisor .wide) ≤ value number ⌝ }
-    ensures { λ r. ⌜ Part (value number) (value (divisor .wide)) (value r) ⌝ }
+/// Takes a divisor off a number `part` times: the quotient grows by what the remainder loses.
+fn take_off(so_far: Division, part: Wide, divisor: Divisor) -> Division
+    requires whole { ⌜ dividend «so_far» (divisor .wide) < 2 ^ 128 ⌝ }
+    requires part { ⌜ Part (value («so_far» .remainder)) (value (divisor .wide)) (value part) ⌝ }
+    ensures whole { λ r. ⌜ dividend r (divisor .wide) ≡ dividend «so_far» (divisor .wide) ⌝ }
+    ensures less { λ r. ⌜ value (r .remainder) < value («so_far» .remainder) ⌝ }
+{
+    let Some(remainder) = so_far.remainder.checked_sub(times(part, divisor.wide)) else {
+        unreachable();
+    };
+    let Some(quotient) = so_far.quotient.checked_add(part) else {
+        unreachable();
+    };
+    Division {
+        quotient,
+        remainder,
+    }
+}
+
+/// A part of a quotient of more than 32 bits, from the leading bits alone: mostly its first 32.
+fn high_part(number: Wide, divisor: Divisor) -> Option<Wide>
+    ensures { λ r. ⌜ Cases r (Unit {0}) (λ p. Part (value number) (value (divisor .wide)) (value p)) ⌝ }
 {
     let lead = number.without_last(divisor.shift);
+    if lead.high == 0 {
+        return None;
+    }
     if lead.high >= divisor.top {
-        return Wide {
+        return Some(Wide {
             high: lead.high / divisor.top,
             low: 0,
-        };
+        });
     }
-    if lead.high > 0 {
-        let middle = lead.high * 0x1_0000_0000 + lead.low / 0x1_0000_0000;
-        return Wide::product(middle / divisor.top, 0x1_0000_0000);
-    }
+    let middle = lead.high * 0x1_0000_0000 + lead.low / 0x1_0000_0000;
+    Some(Wide::product(middle / divisor.top, 0x1_0000_0000))
+}
+
+/// A part of any quotient from 1 on: of a short one all of it, or all but one.
+fn low_part(number: Wide, divisor: Divisor) -> u64
+    requires { ⌜ value (divisor .wide) ≤ value number ⌝ }
+    ensures { λ r. ⌜ Part (value number) (value (divisor .wide)) r ⌝ }
+{
+    let lead = number.without_last(divisor.shift);
     if lead.low >= divisor.top {
-        return Wide {
-            high: 0,
-            low: lead.low / divisor.top,
-        };
+        return lead.low / divisor.top;
     }
-    ONE
+    1
+}
+
+/// The quotient but for its last 32 bits or so, and what is left then.
+fn high_parts(number: Wide, divisor: Divisor) -> Division
+    ensures { λ r. ⌜ dividend r (divisor .wide) ≡ value number ⌝ }
+{
+    let mut so_far = Division {
+        quotient: ZERO,
+        remainder: number,
+    };
+    while let Some(part) = high_part(so_far.remainder, divisor) {
+        so_far = take_off(so_far, part, divisor);
+    }
+    so_far
 }
 
 impl Wide {
-    /// Quotient and remainder, in one turn for each 32 bits of the quotient or two.
+    /// Quotient and remainder, in a turn or two for each 32 bits of the quotient.
     pub fn divided_by(self, divisor: Divisor) -> Division
         ensures { λ r. ⌜ Divided (value self) (value (divisor .wide)) (value (r .quotient)) (value (r .remainder)) ⌝ }
     {
-        let mut quotient = ZERO;
-        let mut rest = self;
-        while rest >= divisor.wide {
-            let part = part_of_quotient(rest, divisor);
-            let Some(less) = rest.checked_sub(times(part, divisor.wide)) else {
-                unreachable();
+        let mut so_far = high_parts(self, divisor);
+        while so_far.remainder >= divisor.wide {
+            let part = Wide {
+                high: 0,
+                low: low_part(so_far.remainder, divisor),
             };
-            let Some(more) = quotient.checked_add(part) else {
-                unreachable();
-            };
-            rest = less;
-            quotient = more;
+            so_far = take_off(so_far, part, divisor);
         }
-        Division {
-            quotient,
-            remainder: rest,
-        }
+        so_far
     }
 
     /// Quotient and remainder, or `None` where the divisor is 0.

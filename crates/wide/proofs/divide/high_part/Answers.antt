@@ -1,16 +1,12 @@
 use Prim.Native.Nat.{_+_, _*_, _/_, _^_}
 use native.Mathlib.Omega.{arith}
 use Rattle.wide.proofs.Parts.{part}
-use Rattle.wide.proofs.divide.part_of_quotient.Needs as need
+use Rattle.wide.proofs.divide.high_part.Needs as need
 
 pub returns-then-lead-divisor : need.returns-then-lead-divisor
 returns-then-lead-divisor c =
     part _ _ _ _ _ (c .args .divisor .positive) (c .args .divisor .covers) (c .without-last-lead .ensures) (c .without-last-lead .result .high) (2 ^ 64) _ (omega arith) (c .if-lead-divisor .taken) (omega arith) (omega arith)
 
-pub returns-then-lead-gt0 : need.returns-then-lead-gt0
-returns-then-lead-gt0 c =
+pub returns : need.returns
+returns c =
     part _ _ _ _ _ (c .args .divisor .positive) (c .args .divisor .covers) (c .without-last-lead .ensures) (c .without-last-lead .result .high * 4294967296 + c .without-last-lead .result .low / 4294967296) (2 ^ 32) _ (omega arith) (omega arith) (omega arith) (c .product .ensures)
-
-pub returns-then-lead-divisor-2 : need.returns-then-lead-divisor-2
-returns-then-lead-divisor-2 c =
-    part _ _ _ _ _ (c .args .divisor .positive) (c .args .divisor .covers) (c .without-last-lead .ensures) (c .without-last-lead .result .low) 1 _ (omega arith) (c .if-lead-divisor-2 .taken) (omega arith) (omega arith)

@@ -1,0 +1,10 @@
+use mathlib.Core.Path.{_≡_}
+use Rattle.wide.specs.Dividend.{dividend}
+use Rattle.wide.specs.Value.{value}
+use Rattle.wide.proofs.divide.high_parts.Given as given
+
+abbrev pub Inv-loop-part : given.InvT-loop-part
+Inv-loop-part l = dividend (l .so-far) (l .divisor .wide) ≡ dividend (l .entry .so-far) (l .divisor .wide)
+
+abbrev pub μ-loop-part : given.MeasureT-loop-part
+μ-loop-part l = value (l .so-far .remainder)
