@@ -24,7 +24,7 @@ pub impl PartialEq<Wide> for Wide as WidePartialEq {
     ghost equals = { λ a b r. Decides r (value a ≡ value b) };
 
     fn eq(&self, other: &Wide) -> bool {
-        compare(*self, *other).is_eq()
+        self.cmp(other).is_eq()
     }
 }
 
@@ -34,7 +34,7 @@ pub impl PartialOrd<Wide> for Wide as WidePartialOrd {
     ghost compares = { λ a b r. SomeBy r (λ o. Ranked o (value a < value b) (value a ≡ value b) (value b < value a)) };
 
     fn partial_cmp(&self, other: &Wide) -> Option<Ordering> {
-        Some(compare(*self, *other))
+        Some(self.cmp(other))
     }
 }
 

@@ -11,7 +11,9 @@ impl Wide {
         ensures { λ r. ⌜ Cases r (2 ^ 128 ≤ value self + value other) (λ w. value w ≡ value self + value other) ⌝ }
     {
         let (low, carry) = self.low.overflowing_add(other.low);
-        let high = self.high.checked_add(other.high)?.checked_add(u64::from(carry))?;
+        let high = self.high
+            .checked_add(other.high)?
+            .checked_add(u64::from(carry))?;
         Some(Wide { high, low })
     }
 
@@ -20,7 +22,9 @@ impl Wide {
         ensures { λ r. ⌜ Cases r (value self < value other) (λ w. value w + value other ≡ value self) ⌝ }
     {
         let (low, borrow) = self.low.overflowing_sub(other.low);
-        let high = self.high.checked_sub(other.high)?.checked_sub(u64::from(borrow))?;
+        let high = self.high
+            .checked_sub(other.high)?
+            .checked_sub(u64::from(borrow))?;
         Some(Wide { high, low })
     }
 

@@ -9,7 +9,7 @@ unreachable-requires-in-rest-checked-add c κs =
 
 pub returns : need.returns
 returns c =
-    record
-    { whole = again _ _ _ _ _ (c .args .divisor .positive) (c .pre .part) (c .times .ensures) _ _ (c .in-Some .ensures tt) (c .in-Some-checked-add .ensures tt)
-    ; less = less _ (value (c .args .so-far .quotient)) _ _ _ (c .args .divisor .positive) (c .pre .part) (c .times .ensures) _ (c .in-Some .ensures tt)
+    record {
+      whole = again _ _ _ _ _ (c .args .divisor .positive) (c .pre .part) (c .times .ensures) _ _ (c .in-Some .ensures tt) (c .in-Some-checked-add .ensures tt);
+      less = less _ (value (c .args .so-far .quotient)) _ _ _ (c .args .divisor .positive) (c .pre .part) (c .times .ensures) _ (c .in-Some .ensures tt);
     }
