@@ -62,7 +62,7 @@ fn first_unsound(numbers: &[u32]) -> Option<usize>
     ensures { λ r. ⌜ First-unsound (now (numbers .entry)) r ⌝ }
 {
     for i in 0..numbers.len() / 3 {
-        if Direction::new(numbers[3 * i], numbers[3 * i + 1], numbers[3 * i + 2]).is_none() {
+        if Direction::from_lent(numbers[3 * i], numbers[3 * i + 1], numbers[3 * i + 2]).is_none() {
             return Some(i);
         }
     }

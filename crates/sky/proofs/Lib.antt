@@ -1,4 +1,5 @@
-pub mod Lent
+pub mod LentVectors
+pub mod Made
 pub mod Pairs
 pub mod Signed
 pub mod Sizes

@@ -2,6 +2,7 @@
 mod cross;
 pub mod direction;
 pub mod index;
+pub mod lent;
 pub mod pair;
 mod square;
 pub mod stars;

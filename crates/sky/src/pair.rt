@@ -1,7 +1,7 @@
 // The number of a pair of directions.
 ghost use mathlib.Core.Path.{_≡_};
 ghost use Prim.Native.Nat.{_≤_};
-ghost use Rattle.sky.specs.Directions.{vector, Number-at};
+ghost use Rattle.sky.specs.Directions.{vector, Number-of};
 ghost use Rattle.sky.specs.Vectors.{length², pair-number};
 use crate::cross::scaled_cross;
 use crate::direction::Direction;
@@ -34,7 +34,7 @@ pub fn pair_number(d: Direction, e: Direction) -> u32
 
 /// The number of a pair of stars, or `None` where one of them is no direction.
 pub fn star_pair_number<S: Stars>(stars: &S, s: Star, t: Star) -> Option<u32>
-    ensures { λ r. ⌜ Number-at (directions (now (stars .entry))) (s .0) (t .0) r ⌝ }
+    ensures { λ r. ⌜ Number-of (directions (now (stars .entry))) (s .0) (t .0) r ⌝ }
 {
     Some(pair_number(stars.direction(s)?, stars.direction(t)?))
 }

@@ -2,7 +2,7 @@
 ghost use mathlib.Core.Path.{_≡_};
 ghost use mathlib.Core.List.{List};
 ghost use lib.ListN.{length};
-ghost use Rattle.sky.specs.Directions.{Direction-at};
+ghost use Rattle.sky.specs.Directions.{Direction-of, star-at};
 ghost use Rattle.sky.specs.Lent.{vectors};
 ghost use Rattle.sky.specs.Vectors.{Vector};
 use crate::direction::Direction;
@@ -19,7 +19,7 @@ pub trait Stars {
 
     /// The direction of a star, or `None` where there is no such star or it is no direction.
     fn direction(&self, star: Star) -> Option<Direction>
-        ensures { λ r. ⌜ Direction-at (directions (now (self .entry))) (star .0) r ⌝ };
+        ensures { λ r. ⌜ Direction-of (star-at (directions (now (self .entry))) (star .0)) r ⌝ };
 }
 
 /// Stars that are lent as numbers, three for each.
@@ -39,6 +39,6 @@ pub impl Stars for LentStars<'_> as LentStarsStars {
         if i >= numbers.len() / 3 {
             return None;
         }
-        Direction::new(numbers[3 * i], numbers[3 * i + 1], numbers[3 * i + 2])
+        Direction::from_lent(numbers[3 * i], numbers[3 * i + 1], numbers[3 * i + 2])
     }
 }

@@ -1,5 +1,5 @@
 // Whole numbers as they are written.
-use sky::direction::ORIGIN;
+use sky::lent::ORIGIN;
 
 /// A whole number written in digits alone; one too large for the machine counts as the largest that fits.
 pub(crate) fn whole(word: &str) -> Option<u64> {

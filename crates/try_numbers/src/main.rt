@@ -1,6 +1,6 @@
 // Prints the number of each pair of directions that it reads, for the gate to compare with what another program computed.
 use sky::Direction;
-use sky::direction::ORIGIN;
+use sky::lent::ORIGIN;
 use sky::pair::pair_number;
 use std::error::AnyError;
 use std::io::BufRead;
@@ -15,7 +15,7 @@ fn lent(words: &mut SplitWhitespace<'_>) -> Option<u32> {
 
 /// The direction of the next three words.
 fn direction(words: &mut SplitWhitespace<'_>) -> Option<Direction> {
-    Direction::new(lent(words)?, lent(words)?, lent(words)?)
+    Direction::from_lent(lent(words)?, lent(words)?, lent(words)?)
 }
 
 /// The number of the two directions of a line.

@@ -1,5 +1,5 @@
 use mathlib.Core.Path.{sym}
-use Rattle.sky.proofs.Lent.{vectors-length}
+use Rattle.sky.proofs.LentVectors.{vectors-length}
 use Rattle.sky.proofs.stars.LentStarsStars.count.Needs as need
 
 pub returns : need.returns
