@@ -1,9 +1,9 @@
 -- The integers are a commutative ring: the laws of the product that `lib.IntN` does not have, squares and amounts.
-use mathlib.Core.Path.{_≡_, refl, sym, _∙_, ap, ap₂}
-use Prim.Native.Nat.{ℕ, zero, suc, _+_, _-_, _*_}
+use mathlib.Core.Path.{_≡_, refl, _∙_, ap, ap₂}
+use Prim.Native.Nat.{ℕ, zero, suc, _+_, _*_}
 use native.Mathlib.Omega.{arith}
-use lib.IntN.{ℤ, pos, negsuc, _+ℤ_, _-ℤ_, _*ℤ_, negℤ, natAbs, *ℤ-comm}
-use borrow.Author.Differences.{ints, up, down, same-in, sum-is, product-is, neg-is}
+use lib.IntN.{ℤ, pos, negsuc, _+ℤ_, _*ℤ_, negℤ, natAbs, *ℤ-comm}
+use borrow.Author.Differences.{up, down, same-in, sum-is, product-is, neg-is}
 
 pub *ℤ-assoc : (a b c : ℤ) → (a *ℤ b) *ℤ c ≡ a *ℤ (b *ℤ c)
 *ℤ-assoc a b c =
@@ -42,7 +42,3 @@ product-amount (pos a) (pos b) = refl
 product-amount (pos a) (negsuc b) = abs-neg (a * suc b)
 product-amount (negsuc a) (pos b) = abs-neg (suc a * b)
 product-amount (negsuc a) (negsuc b) = refl
-
--- how far two numbers are apart, whichever is larger
-pub difference-amount : (a b : ℕ) → natAbs (pos a -ℤ pos b) ≡ (a - b) + (b - a)
-difference-amount a b = omega (arith, ints)

@@ -10,7 +10,7 @@ use mathlib.Core.List.{List, [], _∷_}
 use mathlib.Core.Bool.{Bool, true, false, _&&_}
 use Prim.Native.Nat.{ℕ, zero, suc, _+_, _*_, _-_}
 use lib.Dec.{T}
-use lib.IntN.{ℤ, pos, _+ℤ_, _*ℤ_, _-ℤ_, +ℤ-idl, -ℤ-+ℤ-cancel}
+use lib.IntN.{ℤ, pos, _+ℤ_, _*ℤ_, +ℤ-idl, -ℤ-+ℤ-cancel}
 use Rattle.lemmas.proofs.Integers.{pos-inj}
 use Rattle.lemmas.proofs.Polynomials.{Exp, var, num, _:+_, _:-_, _:*_, sq, nth, den, norm, norm-sound, vanishes, ev-vanishes, both}
 

@@ -4,9 +4,9 @@ ghost use Rattle.requests.specs.Conditions.{First-unsound, not-threes, star-co
 use crate::limits::*;
 use crate::refusal::LentList;
 use crate::refusal::Refusal;
-use sky::Direction;
 use sky::Spot;
 use sky::Star;
+use sky::lent::direction_at;
 
 /// 1: three numbers for each star, and three for each spot.
 pub fn threes(stars: &[u32], spots: &[u32]) -> Result<(), Refusal>
@@ -62,7 +62,7 @@ fn first_unsound(numbers: &[u32]) -> Option<usize>
     ensures { λ r. ⌜ First-unsound (now (numbers .entry)) r ⌝ }
 {
     for i in 0..numbers.len() / 3 {
-        if Direction::from_lent(numbers[3 * i], numbers[3 * i + 1], numbers[3 * i + 2]).is_none() {
+        if direction_at(numbers, i).is_none() {
             return Some(i);
         }
     }

@@ -8,9 +8,9 @@ use Rattle.std.proofs.shelf.Counted.{length-map-counting, getD-map-counting}
 use Rattle.std.proofs.shelf.Lists.{getD-past}
 use Rattle.std.specs.declared.option.Option.{Option}
 use Rattle.sky.specs.declared.direction.Direction.{Direction}
-use Rattle.sky.specs.Vectors.{nowhere}
+use Rattle.sky.specs.Vectors.{nowhere, star-at}
 use Rattle.sky.specs.Lent.{count, vector-at, vectors}
-use Rattle.sky.specs.Directions.{Direction-of, star-at}
+use Rattle.sky.specs.Directions.{Direction-of}
 
 pub vectors-length : (ns : List ℕ) → length (vectors ns) ≡ count ns
 unfolding vectors

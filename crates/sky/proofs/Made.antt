@@ -1,8 +1,7 @@
 -- A direction that was made is sound.
-use mathlib.Core.Path.{_≡_, subst}
-use mathlib.Core.Bool.{Bool, true, false}
-use Prim.Native.Nat.{ℕ}
-use native.Mathlib.Omega.{arith}
+use mathlib.Core.Path.{_≡_, sym, subst}
+use mathlib.Core.Bool.{true}
+use lib.Dec.{T}
 use Rattle.std.specs.Options.{isSome}
 use Rattle.std.specs.declared.option.Option.{Option}
 use Rattle.std.specs.declared.option.Option.the-variants.{Some, None}
@@ -11,5 +10,5 @@ use Rattle.sky.specs.Vectors.{Vector, Sound}
 use Rattle.sky.specs.Directions.{Direction-of}
 
 pub made-sound : (v : Vector) (r : Option Direction) → Direction-of v r → isSome r ≡ true → Sound v
-made-sound v None h e = let z : _≡_ {A = ℕ} 0 1 = cc in absurd (omega arith)
+made-sound v None h e = absurd (subst T (sym e) tt)
 made-sound v (Some d) h e = subst Sound h (d .sound)

@@ -1,9 +1,9 @@
--- The laws of the number of a pair. No other file opens its definition.
+-- The laws of the number of a pair: the same either way round, and at most 2^24.
 use mathlib.Core.Path.{_≡_, sym, _∙_, ap₂}
 use Prim.Native.Nat.{ℕ, _+_, _*_, _/_, _≤_}
 use native.Mathlib.Nat.{le-intro, div-le-of-le-mul, mul-comm}
 use native.Mathlib.Omega.{arith}
-use lib.IntN.{ℤ, pos, _+ℤ_, _*ℤ_, _-ℤ_, natAbs}
+use lib.IntN.{ℤ, pos, _+ℤ_, _*ℤ_}
 use Rattle.lemmas.proofs.Integers.{pos-inj, square-is}
 use Rattle.lemmas.proofs.Polynomials.{_:+_, _:-_, _:*_, sq}
 use Rattle.lemmas.proofs.Ring.{_:=_, ringℤ}

@@ -1,6 +1,6 @@
 -- Signed numbers that are small are read back from their bits as they were.
 use mathlib.Core.Path.{_≡_}
-use Prim.Native.Nat.{ℕ, _*_, _^_, _≤_, _<_}
+use Prim.Native.Nat.{_*_, _^_, _≤_, _<_}
 use native.Mathlib.Nat.{mul-le-mul}
 use native.Mathlib.Omega.{arith}
 use borrow.Author.Differences.{ints}
@@ -26,18 +26,18 @@ pub coordinate-64 : (a : ℤ) → In-range a → toZ w64 (ofZ w64 a) ≡ a
 coordinate-64 a h = read-back w64 a (omega arith)
 
 -- ---- their products
-pub product-bound : (a b : ℤ) → In-range a → In-range b → natAbs (a *ℤ b) ≤ 4294836225
+pub product-bound : (a b : ℤ) → In-range a → In-range b → natAbs (a *ℤ b) ≤ 65535 * 65535
 product-bound a b h k = omega (arith, product-amount a b, mul-le-mul h k)
 
-pub product-64 : (p : ℤ) → natAbs p ≤ 4294836225 → toZ w64 (ofZ w64 p) ≡ p
+pub product-64 : (p : ℤ) → natAbs p ≤ 65535 * 65535 → toZ w64 (ofZ w64 p) ≡ p
 product-64 p h = read-back w64 p (omega arith)
 
 -- ---- and the differences of these
-pub difference-bound : (p q : ℤ) → natAbs p ≤ 4294836225 → natAbs q ≤ 4294836225 → natAbs (p -ℤ q) ≤ 8589672450
+pub difference-bound : (p q : ℤ) → natAbs p ≤ 65535 * 65535 → natAbs q ≤ 65535 * 65535 → natAbs (p -ℤ q) ≤ 2 * (65535 * 65535)
 difference-bound p q h k = omega (arith, ints)
 
-pub difference-fits : (p q : ℤ) → natAbs p ≤ 4294836225 → natAbs q ≤ 4294836225 → SFits w64 (p -ℤ q)
+pub difference-fits : (p q : ℤ) → natAbs p ≤ 65535 * 65535 → natAbs q ≤ 65535 * 65535 → SFits w64 (p -ℤ q)
 difference-fits p q h k = fits w64 (p -ℤ q) (omega (arith, difference-bound p q h k))
 
-pub difference-64 : (p q : ℤ) → natAbs p ≤ 4294836225 → natAbs q ≤ 4294836225 → toZ w64 (ofZ w64 (p -ℤ q)) ≡ p -ℤ q
+pub difference-64 : (p q : ℤ) → natAbs p ≤ 65535 * 65535 → natAbs q ≤ 65535 * 65535 → toZ w64 (ofZ w64 (p -ℤ q)) ≡ p -ℤ q
 difference-64 p q h k = toZ-ofZ (difference-fits p q h k)

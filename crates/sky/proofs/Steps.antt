@@ -1,23 +1,13 @@
 -- The steps by which the code comes to the number of a pair.
 use mathlib.Core.Path.{_≡_, refl, sym, _∙_, ap, ap₂}
 use mathlib.Core.Logic.{⊎-elim}
-use Prim.Native.Nat.{ℕ, zero, suc, _+_, _-_, _*_, _/_, _≤_, _<_}
+use Prim.Native.Nat.{ℕ, zero, suc, _+_, _*_, _/_, _<_}
 use native.Mathlib.Nat.{eq-zero-or-pos}
 use native.Mathlib.Omega.{arith}
 use lib.Arith.{digits-div}
-use lib.IntN.{ℤ, pos, negsuc, _-ℤ_, _*ℤ_, natAbs}
-use Rattle.lemmas.proofs.Integers.{difference-amount}
-use Rattle.lemmas.proofs.Polynomials.{_:+_, _:-_, _:*_}
-use Rattle.lemmas.proofs.Ring.{_:=_, ringℤ}
+use lib.IntN.{ℤ, pos, negsuc, natAbs}
 use Rattle.wide.specs.Divided.{Divided}
 use Rattle.sky.specs.Vectors.{Vector, Sound, square, length², cross, pair-number}
-use Rattle.sky.specs.Lent.{coordinate}
-
--- a component of a cross product, by lent numbers alone
-pub component-is : (a b c d : ℕ) → natAbs (coordinate a *ℤ coordinate b -ℤ coordinate c *ℤ coordinate d) ≡ ((a * b + (c + d) * 65536) - (c * d + (a + b) * 65536)) + ((c * d + (a + b) * 65536) - (a * b + (c + d) * 65536))
-component-is a b c d =
-    ap natAbs (ringℤ 5 (λ a b c d h. (a :- h) :* (b :- h) :- (c :- h) :* (d :- h) := a :* b :+ (c :+ d) :* h :- (c :* d :+ (a :+ b) :* h)) tt (pos a) (pos b) (pos c) (pos d) (pos 65536))
-    ∙ difference-amount (a * b + (c + d) * 65536) (c * d + (a + b) * 65536)
 
 -- the sum of the squares, from the components in amount
 pub squares : (v : Vector) (x y z : ℕ) → x ≡ natAbs (v .x) → y ≡ natAbs (v .y) → z ≡ natAbs (v .z) → length² v ≡ x * x + (y * y + z * z)
@@ -33,7 +23,7 @@ square-zero (negsuc n) e = absurd (omega arith)
 
 pub length-positive : (v : Vector) → Sound v → 0 < length² v
 unfolding length²
-length-positive v h = ⊎-elim (λ e. absurd (h .3 (zero-coordinates e))) (λ p. p) (eq-zero-or-pos (length² v))
+length-positive v h = ⊎-elim (λ e. absurd (h .1 (zero-coordinates e))) (λ p. p) (eq-zero-or-pos (length² v))
   where
     squares-zero : length² v ≡ 0 → (square (v .x) ≡ 0) × (square (v .y) ≡ 0) × (square (v .z) ≡ 0)
     squares-zero e = (omega arith, omega arith, omega arith)

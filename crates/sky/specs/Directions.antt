@@ -2,10 +2,9 @@
 use mathlib.Core.Path.{_≡_}
 use mathlib.Core.List.{List}
 use Prim.Native.Nat.{ℕ}
-use lib.ListN.{getD}
 use Rattle.std.specs.Options.{Cases}
 use Rattle.std.specs.declared.option.Option.{Option}
-use Rattle.sky.specs.Vectors.{Vector, vec, Sound, nowhere, pair-number}
+use Rattle.sky.specs.Vectors.{Vector, vec, Sound, star-at, pair-number}
 use Rattle.sky.specs.declared.direction.Direction.{Direction}
 
 -- the vector of a direction
@@ -15,10 +14,6 @@ vector d = vec (d .x) (d .y) (d .z)
 -- the direction of a vector, or none where the vector is not sound
 abbrev pub Direction-of : Vector → Option Direction → Type 0
 Direction-of v r = Cases r (Sound v → ⊥) (λ d. vector d ≡ v)
-
--- the vector of the star with number i; past the end of the list one that is not sound
-abbrev pub star-at : List Vector → ℕ → Vector
-star-at vs i = getD vs i nowhere
 
 -- the number of the pair of stars i and j, or none where one of them is no direction
 abbrev pub Number-of : List Vector → ℕ → ℕ → Option ℕ → Type 0

@@ -4,7 +4,7 @@ use Prim.Native.Nat.{ℕ, _+_, _*_, _/_}
 use lib.IntN.{ℤ, pos, _-ℤ_}
 use lib.ListN.{length, getD}
 use Rattle.std.specs.Iters.{counting}
-use Rattle.sky.specs.Vectors.{Vector, vec, Sound}
+use Rattle.sky.specs.Vectors.{Vector, vec, Sound, star-at}
 
 -- a coordinate is lent with 65,536 added
 abbrev pub coordinate : ℕ → ℤ
@@ -27,4 +27,4 @@ vectors ns = map (vector-at ns) (counting 0 (count ns))
 
 -- the vector with number i is a direction
 abbrev pub Sound-at : List ℕ → ℕ → Type 0
-Sound-at ns i = Sound (vector-at ns i)
+Sound-at ns i = Sound (star-at (vectors ns) i)

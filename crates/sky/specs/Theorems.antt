@@ -1,7 +1,7 @@
 -- What holds of the numbers of all pairs. Each is a statement, whose proof is asked for by a function's contract. Assumes nothing.
 use mathlib.Core.Path.{_≡_}
-use Prim.Native.Nat.{ℕ, _*_, _≤_, _<_, _^_}
-use Rattle.sky.specs.Vectors.{Vector, In-range, length², cross, pair-number}
+use Prim.Native.Nat.{_*_, _≤_, _<_, _^_}
+use Rattle.sky.specs.Vectors.{Vector, All-in-range, length², cross, pair-number}
 
 -- the number is the same either way round
 abbrev pub Same-either-way : Type 0
@@ -14,16 +14,11 @@ Sine-at-most-one = (v w : Vector) → length² (cross v w) ≤ length² v * leng
 abbrev pub At-most-2^24 : Type 0
 At-most-2^24 = (v w : Vector) → pair-number v w ≤ 16777216
 
-pub record Coordinates-in-range (v : Vector) : Type 0 where
-  pub x : In-range (v .x)
-  pub y : In-range (v .y)
-  pub z : In-range (v .z)
-
 -- what is computed for a number is small enough for 128 bits
 pub record Small (v w : Vector) : Type 0 where
-  pub length : length² v < 2 ^ 34
+  pub squares : length² v < 2 ^ 34
   pub product : length² v * length² w < 2 ^ 68
   pub scaled : 16777216 * length² (cross v w) < 2 ^ 92
 
 abbrev pub Fits-128-bits : Type 0
-Fits-128-bits = (v w : Vector) → Coordinates-in-range v → Coordinates-in-range w → Small v w
+Fits-128-bits = (v w : Vector) → All-in-range v → All-in-range w → Small v w

@@ -14,7 +14,7 @@ use wide::Wide;
 fn times(a: i32, b: i32) -> i64
     requires { ⌜ In-range a × In-range b ⌝ }
     ensures value { λ r. ⌜ r ≡ a *ℤ b ⌝ }
-    ensures bound { λ r. ⌜ natAbs r ≤ 4294836225 ⌝ }
+    ensures bound { λ r. ⌜ natAbs r ≤ 65535 * 65535 ⌝ }
 {
     a as i64 * b as i64
 }

@@ -2,15 +2,15 @@
 ghost use mathlib.Core.Path.{_≡_};
 ghost use Rattle.std.specs.Options.{Cases};
 ghost use Rattle.sky.specs.Directions.{Direction-of};
-ghost use Rattle.sky.specs.Lent.{coordinate, lent};
-ghost use Rattle.sky.specs.Vectors.{In-range};
+ghost use Rattle.sky.specs.Lent.{coordinate, lent, vectors};
+ghost use Rattle.sky.specs.Vectors.{In-range, star-at};
 use crate::direction::Direction;
 
 /// What is added to a coordinate when it is lent.
 pub const ORIGIN: u32 = 65_536;
 
 /// The largest number that is lent for a coordinate.
-pub const LARGEST: u32 = 131_071;
+const LARGEST: u32 = 131_071;
 
 impl Direction {
     /// The direction that three numbers are lent for, or `None` where they are not sound.
@@ -23,6 +23,17 @@ impl Direction {
         }
         Some(Direction { x, y, z })
     }
+}
+
+/// The direction with number `i` of a list of lent numbers, or `None` where there is none, or what
+/// is lent for it is not sound.
+pub fn direction_at(numbers: &[u32], i: usize) -> Option<Direction>
+    ensures { λ r. ⌜ Direction-of (star-at (vectors (now (numbers .entry))) i) r ⌝ }
+{
+    if i >= numbers.len() / 3 {
+        return None;
+    }
+    Direction::from_lent(numbers[3 * i], numbers[3 * i + 1], numbers[3 * i + 2])
 }
 
 /// The coordinate that a number is lent for, or `None` where it is out of range.

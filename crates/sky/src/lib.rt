@@ -11,5 +11,7 @@ pub mod theorems;
 pub use direction::Direction;
 pub use index::Spot;
 pub use index::Star;
+pub use pair::pair_number;
+pub use pair::star_pair_number;
 pub use stars::LentStars;
 pub use stars::Stars;

@@ -24,6 +24,7 @@ fn length_squared(d: Direction) -> u64
 /// of 2^24, rounded down.
 pub fn pair_number(d: Direction, e: Direction) -> u32
     ensures value { λ r. ⌜ r ≡ pair-number (vector d) (vector e) ⌝ }
+    ensures either_way { λ r. ⌜ r ≡ pair-number (vector e) (vector d) ⌝ }
     ensures bound { λ r. ⌜ r ≤ 16777216 ⌝ }
 {
     let Some(whole) = Divisor::new(Wide::product(length_squared(d), length_squared(e))) else {

@@ -2,11 +2,12 @@
 ghost use mathlib.Core.Path.{_≡_};
 ghost use mathlib.Core.List.{List};
 ghost use lib.ListN.{length};
-ghost use Rattle.sky.specs.Directions.{Direction-of, star-at};
+ghost use Rattle.sky.specs.Directions.{Direction-of};
 ghost use Rattle.sky.specs.Lent.{vectors};
-ghost use Rattle.sky.specs.Vectors.{Vector};
+ghost use Rattle.sky.specs.Vectors.{Vector, star-at};
 use crate::direction::Direction;
 use crate::index::Star;
+use crate::lent::direction_at;
 
 /// The stars of a catalogue, by their numbers.
 pub trait Stars {
@@ -34,11 +35,6 @@ pub impl Stars for LentStars<'_> as LentStarsStars {
     }
 
     fn direction(&self, star: Star) -> Option<Direction> {
-        let i = star.0;
-        let numbers = self.0;
-        if i >= numbers.len() / 3 {
-            return None;
-        }
-        Direction::from_lent(numbers[3 * i], numbers[3 * i + 1], numbers[3 * i + 2])
+        direction_at(self.0, star.0)
     }
 }

@@ -2,8 +2,7 @@
 use mathlib.Core.List.{List}
 use Prim.Native.Nat.{ℕ, zero, suc, _+_, _<_}
 use lib.ListN.{length}
-use Rattle.sky.specs.Vectors.{Vector, Sound, pair-number}
-use Rattle.sky.specs.Directions.{star-at}
+use Rattle.sky.specs.Vectors.{Vector, Sound, star-at, pair-number}
 
 abbrev pub All-sound : List Vector → Type 0
 All-sound vs = (i : ℕ) → i < length vs → Sound (star-at vs i)

@@ -6,7 +6,7 @@ ghost use Rattle.sky.specs.Lent.{vectors};
 ghost use Rattle.timing.specs.Sums.{All-sound, sum-of-row, sum-of-all};
 use sky::LentStars;
 use sky::Star;
-use sky::pair::pair_number;
+use sky::pair_number;
 use sky::stars::LentStarsStars;
 use sky::stars::Stars;
 

@@ -2,7 +2,7 @@
 use mathlib.Core.Path.{_≡_, sym, _∙_, ap, subst}
 use mathlib.Core.Logic.{⊎-elim}
 use Prim.Native.Nat.{ℕ, zero, suc, _+_, _-_, _*_, _/_, _%_, _^_, _≤_, _<_}
-use native.Mathlib.Nat.{mul-lt-mul-of-pos-right, pow-succ', mul-comm, zero-lt-suc}
+use native.Mathlib.Nat.{mul-lt-mul-of-pos-right, mul-le-mul-right, pow-succ', mul-comm, zero-lt-suc}
 use native.Mathlib.Omega.{arith}
 use lib.Count.{leadingZeros}
 use lib.Pow.{pow-mono}
@@ -41,12 +41,12 @@ record Has-bits (n m : ℕ) : Type 0 where
   below : n < 2 ^ m
   above : 2 ^ m ≤ 2 * n + 1
 
-even : (n m : ℕ) → 0 < n → Has-bits n m → 2 ^ m ≤ 2 * n
-even n zero p h = absurd (omega arith)
-even n (suc m) p h = omega (arith, pow-succ' 2 m)
+at-most-twice : (n m : ℕ) → 0 < n → Has-bits n m → 2 ^ m ≤ 2 * n
+at-most-twice n zero p h = absurd (omega arith)
+at-most-twice n (suc m) p h = omega (arith, pow-succ' 2 m)
 
 with-a-word : (h l m : ℕ) → 0 < h → l < 2 ^ 64 → Has-bits h m → Has-bits (h * 2 ^ 64 + l) (m + 64)
-with-a-word h l m p q b = record { below = omega (arith, pow-add 2 m 64); above = omega (arith, pow-add 2 m 64, even h m p b) }
+with-a-word h l m p q b = record { below = omega (arith, pow-add 2 m 64); above = omega (arith, pow-add 2 m 64, at-most-twice h m p b) }
 
 past-32 : (n m i : ℕ) → Has-bits n m → i ≡ m - 32 → Past-32 n i
 past-32 n m i b e = ⊎-elim long short (cases-lt 32 m)
@@ -78,10 +78,11 @@ pub none-left : (n i : ℕ) → Past-32 n i → n / 2 ^ i ≡ 0 → n ≡ 0
 none-left n zero h e = omega (arith, shr-split n 0)
 none-left n (suc i) h e = absurd (omega (arith, h .full (zero-lt-suc i)))
 
--- t, with i zeros behind it, is a number that n, above 0, does not pass
+-- t, with i zeros behind it, is at least n, above 0, and little more
 pub record Leads (n t i : ℕ) : Type 0 where
   pub positive : 0 < n
   pub covers : n ≤ t * 2 ^ i
+  pub near : t * 2 ^ i * 2 ^ 31 ≤ n * (2 ^ 31 + 1)
   pub short : t ≤ 2 ^ 32
 
 no-rest : (n i : ℕ) → i ≡ 0 → n % 2 ^ i ≡ 0
@@ -89,8 +90,11 @@ no-rest n i z = let e : n % 2 ^ i ≡ n % 1 = ap (λ j. n % 2 ^ j) z in omega ar
 
 pub leads-whole : (n i t : ℕ) → Past-32 n i → i ≡ 0 → t ≡ n / 2 ^ i → (t ≡ 0 → ⊥) → Leads n t i
 leads-whole n i t h z e s =
-    record { positive = omega (arith, shr-le n i); covers = omega (arith, ap (λ v. v * 2 ^ i) e, shr-split n i, no-rest n i z); short = omega (arith, h .below) }
+    let k : t * 2 ^ i ≡ n = omega (arith, ap (λ v. v * 2 ^ i) e, shr-split n i, no-rest n i z) in
+    record { positive = omega (arith, shr-le n i); covers = omega arith; near = omega arith; short = omega (arith, h .below) }
 
-pub leads-past : (n i t : ℕ) → Past-32 n i → t ≡ n / 2 ^ i + 1 → (n / 2 ^ i ≡ 0 → ⊥) → Leads n t i
-leads-past n i t h e s =
-    record { positive = omega (arith, shr-le n i); covers = omega (arith, ap (λ v. v * 2 ^ i) e, shr-split n i, mod-below n (2 ^ i) (pow-pos i)); short = omega (arith, h .below) }
+pub leads-past : (n i t : ℕ) → Past-32 n i → (i ≡ 0 → ⊥) → t ≡ n / 2 ^ i + 1 → (n / 2 ^ i ≡ 0 → ⊥) → Leads n t i
+leads-past n i t h z e s =
+    let k : t * 2 ^ i ≡ n / 2 ^ i * 2 ^ i + 2 ^ i = omega (arith, ap (λ v. v * 2 ^ i) e) in
+    let f : 2 ^ 31 * 2 ^ i ≤ n / 2 ^ i * 2 ^ i = mul-le-mul-right (2 ^ i) (h .full (omega arith)) in
+    record { positive = omega (arith, shr-le n i); covers = omega (arith, shr-split n i, mod-below n (2 ^ i) (pow-pos i)); near = omega (arith, shr-split n i); short = omega (arith, h .below) }

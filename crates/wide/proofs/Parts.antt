@@ -4,13 +4,14 @@ use mathlib.Core.Logic.{⊎-elim}
 use Prim.Native.Nat.{ℕ, _+_, _*_, _/_, _^_, _≤_, _<_}
 use native.Mathlib.Nat.{mul-le-mul-left, mul-le-mul-right, div-mul-le-self}
 use native.Mathlib.Omega.{arith}
-use Rattle.std.proofs.shelf.Bits.{le-div}
+use Rattle.std.proofs.shelf.Bits.{le-div, div-below, mod-below, pow-pos, shr-split, div-add-mod'}
 use Rattle.std.proofs.shelf.Tests.{cases-lt}
 use Rattle.wide.specs.Divided.{Part}
+use Rattle.wide.specs.Leading.{Short}
 
 -- the divisor d is above 0 and at most t with i zeros behind it; n without its last i bits is m
 module _ (n d t i m : ℕ) (p : 0 < d) (h : d ≤ t * 2 ^ i) (l : m ≡ n / 2 ^ i) where
-  t-positive : 0 < t
+  pub t-positive : 0 < t
   t-positive =
       ⊎-elim (λ k. k) (λ k. let z : t ≡ 0 = omega arith in absurd (omega (arith, ap (λ v. v * 2 ^ i) z))) (cases-lt 0 t)
 
@@ -26,6 +27,28 @@ module _ (n d t i m : ℕ) (p : 0 < d) (h : d ≤ t * 2 ^ i) (l : m ≡ n / 2 ^ 
   part v s r k q z e =
       let f : 1 ≤ v / t = le-div 1 v t t-positive (omega arith) in
       record { some = omega (arith, mul-le-mul-right s f); fits = subst (λ w. w * d ≤ n) (sym e) (goes-into v s k) }
+
+  -- ---- and where m is short, v / t leaves out two at most
+  upper : n < (m + 1) * 2 ^ i
+  upper = omega (arith, shr-split n i, mod-below n (2 ^ i) (pow-pos i), ap (λ w. w * 2 ^ i) l)
+
+  pub near-part : t * 2 ^ i * 2 ^ 31 ≤ d * (2 ^ 31 + 1) → m < t * 2 ^ 32 → n < (m / t + 3) * d
+  near-part q s =
+      let a : m + 1 ≤ (m / t + 1) * t = omega (arith, div-add-mod' m t, mod-below m t t-positive) in
+      let b : (m / t + 1) * (t * 2 ^ i * 2 ^ 31) ≤ (m / t + 1) * (d * (2 ^ 31 + 1)) = mul-le-mul-left (m / t + 1) q in
+      let c : m / t + 1 ≤ 2 ^ 32 = omega (arith, div-below m t (2 ^ 32) t-positive (omega arith)) in
+      omega (arith, upper, mul-le-mul-right (2 ^ i) a, b, mul-le-mul-right d c)
+
+  pub near-one : t * 2 ^ i * 2 ^ 31 ≤ d * (2 ^ 31 + 1) → m < t → n < 4 * d
+  near-one q s =
+      let a : t ≤ t * 2 ^ 32 = omega arith in
+      let z : m / t < 1 = div-below m t 1 t-positive (omega arith) in
+      let b : (m / t + 3) * d ≤ 4 * d = mul-le-mul-right d (omega arith) in
+      omega (arith, near-part q (omega arith), b)
+
+-- what is less than something short is short
+pub still-short : (n k t i : ℕ) → k ≤ n → Short n t i → Short k t i
+still-short n k t i h s = omega (arith, le-div (k / 2 ^ i) n (2 ^ i) (pow-pos i) (omega (arith, div-mul-le-self k (2 ^ i))), s)
 
 -- ---- with p more in the quotient, p d less is left
 module _ (d q r p m : ℕ) (z : 0 < d) (t : Part r d p) (e : m ≡ p * d) where

@@ -1,13 +1,15 @@
 // Quotient and remainder.
 ghost use mathlib.Core.Path.{_≡_};
-ghost use Prim.Native.Nat.{_*_, _≤_, _<_, _^_};
+ghost use Prim.Native.Nat.{_+_, _*_, _≤_, _<_, _^_};
 ghost use Rattle.std.specs.Options.{Cases};
 ghost use Rattle.wide.specs.Value.{value};
 ghost use Rattle.wide.specs.Divided.{Divided, Part};
 ghost use Rattle.wide.specs.Dividend.{dividend};
+ghost use Rattle.wide.specs.Leading.{Short};
 use crate::divisor::Divisor;
 use crate::order::WidePartialEq;
 use crate::order::WidePartialOrd;
+use crate::sums::WideFrom;
 use crate::wide::Wide;
 use crate::wide::WideDebug;
 
@@ -34,12 +36,13 @@ fn times(a: Wide, b: Wide) -> Wide
 
 /// Takes a divisor off a number `part` times: the quotient grows by what the remainder loses.
 fn take_off(so_far: Division, part: Wide, divisor: Divisor) -> Division
-    requires whole { ⌜ dividend «so_far» (divisor .wide) < 2 ^ 128 ⌝ }
-    requires part { ⌜ Part (value («so_far» .remainder)) (value (divisor .wide)) (value part) ⌝ }
-    ensures whole { λ r. ⌜ dividend r (divisor .wide) ≡ dividend «so_far» (divisor .wide) ⌝ }
+    requires whole { ⌜ dividend «so_far» (divisor .number) < 2 ^ 128 ⌝ }
+    requires part { ⌜ Part (value («so_far» .remainder)) (value (divisor .number)) (value part) ⌝ }
+    ensures whole { λ r. ⌜ dividend r (divisor .number) ≡ dividend «so_far» (divisor .number) ⌝ }
+    ensures more { λ r. ⌜ value (r .quotient) ≡ value («so_far» .quotient) + value part ⌝ }
     ensures less { λ r. ⌜ value (r .remainder) < value («so_far» .remainder) ⌝ }
 {
-    let Some(remainder) = so_far.remainder.checked_sub(times(part, divisor.wide)) else {
+    let Some(remainder) = so_far.remainder.checked_sub(times(part, divisor.number)) else {
         unreachable();
     };
     let Some(quotient) = so_far.quotient.checked_add(part) else {
@@ -51,14 +54,11 @@ fn take_off(so_far: Division, part: Wide, divisor: Divisor) -> Division
     }
 }
 
-/// A part of a quotient of more than 32 bits, from the leading bits alone: mostly its first 32.
+/// A part of a long quotient, from the leading bits alone; none where the quotient is short.
 fn high_part(number: Wide, divisor: Divisor) -> Option<Wide>
-    ensures { λ r. ⌜ Cases r (Unit {0}) (λ p. Part (value number) (value (divisor .wide)) (value p)) ⌝ }
+    ensures { λ r. ⌜ Cases r (Short (value number) (divisor .top) (divisor .shift)) (λ p. Part (value number) (value (divisor .number)) (value p)) ⌝ }
 {
     let lead = number.without_last(divisor.shift);
-    if lead.high == 0 {
-        return None;
-    }
     if lead.high >= divisor.top {
         return Some(Wide {
             high: lead.high / divisor.top,
@@ -66,24 +66,30 @@ fn high_part(number: Wide, divisor: Divisor) -> Option<Wide>
         });
     }
     let middle = lead.high * 0x1_0000_0000 + lead.low / 0x1_0000_0000;
-    Some(Wide::product(middle / divisor.top, 0x1_0000_0000))
+    if middle >= divisor.top {
+        return Some(Wide::product(middle / divisor.top, 0x1_0000_0000));
+    }
+    None
 }
 
-/// A part of any quotient from 1 on: of a short one all of it, or all but one.
-fn low_part(number: Wide, divisor: Divisor) -> u64
-    requires { ⌜ value (divisor .wide) ≤ value number ⌝ }
-    ensures { λ r. ⌜ Part (value number) (value (divisor .wide)) r ⌝ }
+/// All of a short quotient from 1 on, or all but two.
+fn low_part(number: Wide, divisor: Divisor) -> u32
+    requires short { ⌜ Short (value number) (divisor .top) (divisor .shift) ⌝ }
+    requires once { ⌜ value (divisor .number) ≤ value number ⌝ }
+    ensures part { λ r. ⌜ Part (value number) (value (divisor .number)) r ⌝ }
+    ensures near { λ r. ⌜ value number < (r + 3) * value (divisor .number) ⌝ }
 {
     let lead = number.without_last(divisor.shift);
-    if lead.low >= divisor.top {
-        return lead.low / divisor.top;
+    if lead.low < divisor.top {
+        return 1;
     }
-    1
+    (lead.low / divisor.top) as u32
 }
 
-/// The quotient but for its last 32 bits or so, and what is left then.
+/// What is left of a division whose quotient is short, and the quotient up to there.
 fn high_parts(number: Wide, divisor: Divisor) -> Division
-    ensures { λ r. ⌜ dividend r (divisor .wide) ≡ value number ⌝ }
+    ensures whole { λ r. ⌜ dividend r (divisor .number) ≡ value number ⌝ }
+    ensures short { λ r. ⌜ Short (value (r .remainder)) (divisor .top) (divisor .shift) ⌝ }
 {
     let mut so_far = Division {
         quotient: ZERO,
@@ -96,17 +102,14 @@ fn high_parts(number: Wide, divisor: Divisor) -> Division
 }
 
 impl Wide {
-    /// Quotient and remainder, in a turn or two for each 32 bits of the quotient.
+    /// Quotient and remainder. A quotient of at most 32 bits takes three turns at most.
     pub fn divided_by(self, divisor: Divisor) -> Division
-        ensures { λ r. ⌜ Divided (value self) (value (divisor .wide)) (value (r .quotient)) (value (r .remainder)) ⌝ }
+        ensures { λ r. ⌜ Divided (value self) (value (divisor .number)) (value (r .quotient)) (value (r .remainder)) ⌝ }
     {
         let mut so_far = high_parts(self, divisor);
-        while so_far.remainder >= divisor.wide {
-            let part = Wide {
-                high: 0,
-                low: low_part(so_far.remainder, divisor),
-            };
-            so_far = take_off(so_far, part, divisor);
+        while so_far.remainder >= divisor.number {
+            let part = low_part(so_far.remainder, divisor);
+            so_far = take_off(so_far, Wide::from(part as u64), divisor);
         }
         so_far
     }

@@ -2,7 +2,7 @@
 pub mod divide;
 pub mod divisor;
 pub mod order;
-pub mod shift;
+mod shift;
 pub mod sums;
 pub mod wide;
 
@@ -12,7 +12,7 @@ pub use wide::Wide;
 
 #[cfg(test)]
 mod tests {
-    // Quotients and remainders of all lengths, as another program has them.
+    // Quotients of four lengths and their remainders, as another program has them.
     use crate::Wide;
     use crate::order::WidePartialEq;
     use crate::wide::WideDebug;
@@ -30,7 +30,7 @@ mod tests {
     }
 
     #[test]
-    fn quotients_of_all_lengths() -> Result<(), Fail> {
+    fn quotients_of_four_lengths() -> Result<(), Fail> {
         let q = Wide {
             high: 2_635_249_153_387_078_802,
             low: 5_270_498_306_774_157_604,

@@ -1,15 +1,14 @@
 // Numbers of two words compare by their values.
 ghost use mathlib.Core.Path.{_≡_};
-ghost use Prim.Native.Nat.{_<_};
 ghost use Rattle.std.specs.Options.{SomeBy};
-ghost use Rattle.std.specs.Orderings.{Decides, Ranked};
-ghost use Rattle.wide.specs.Value.{value};
+ghost use Rattle.std.specs.Orderings.{Decides};
+ghost use Rattle.wide.specs.Value.{value, Compared};
 use crate::wide::Wide;
 use std::cmp::Ordering;
 
 /// How two numbers compare: by their high words, and then by their low ones.
 fn compare(a: Wide, b: Wide) -> Ordering
-    ensures { λ r. ⌜ Ranked r (value a < value b) (value a ≡ value b) (value b < value a) ⌝ }
+    ensures { λ r. ⌜ Compared a b r ⌝ }
 {
     if a.high < b.high || (a.high == b.high && a.low < b.low) {
         Ordering::Less
@@ -31,7 +30,7 @@ pub impl PartialEq<Wide> for Wide as WidePartialEq {
 pub impl Eq for Wide as WideEq {}
 
 pub impl PartialOrd<Wide> for Wide as WidePartialOrd {
-    ghost compares = { λ a b r. SomeBy r (λ o. Ranked o (value a < value b) (value a ≡ value b) (value b < value a)) };
+    ghost compares = { λ a b r. SomeBy r (Compared a b) };
 
     fn partial_cmp(&self, other: &Wide) -> Option<Ordering> {
         Some(self.cmp(other))
@@ -39,7 +38,7 @@ pub impl PartialOrd<Wide> for Wide as WidePartialOrd {
 }
 
 pub impl Ord for Wide as WideOrd {
-    ghost orders = { λ a b r. Ranked r (value a < value b) (value a ≡ value b) (value b < value a) };
+    ghost orders = { Compared };
 
     fn cmp(&self, other: &Wide) -> Ordering {
         compare(*self, *other)

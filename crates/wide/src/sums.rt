@@ -5,6 +5,14 @@ ghost use Rattle.std.specs.Options.{Cases};
 ghost use Rattle.wide.specs.Value.{value};
 use crate::wide::Wide;
 
+pub impl From<u64> for Wide as WideFrom {
+    ghost converts = { λ n w. value w ≡ n };
+
+    fn from(word: u64) -> Wide {
+        Wide { high: 0, low: word }
+    }
+}
+
 impl Wide {
     /// The sum, or `None` where it does not fit 128 bits.
     pub fn checked_add(self, other: Wide) -> Option<Wide>

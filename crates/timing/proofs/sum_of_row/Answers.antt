@@ -1,9 +1,8 @@
 use mathlib.Core.Path.{_≡_, _∙_, ap₂}
 use native.Mathlib.Numerals.{add-one}
 use native.Mathlib.Omega.{arith}
-use Rattle.sky.specs.Directions.{star-at}
 use Rattle.sky.specs.Lent.{vectors}
-use Rattle.sky.specs.Vectors.{pair-number}
+use Rattle.sky.specs.Vectors.{star-at, pair-number}
 use Rattle.timing.proofs.sum_of_row.Needs as need
 
 pub loop-t-again : need.loop-t-again

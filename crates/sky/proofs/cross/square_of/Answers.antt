@@ -6,7 +6,7 @@ use Rattle.sky.proofs.cross.square_of.Needs as need
 
 pub ghost-result : need.ghost-result
 ghost-result c =
-    let p : c .args .component / 131072 ≤ 262143 = omega arith in
+    let p : c .args .component / 131072 ≤ 131071 = omega arith in
     let q : c .args .component % 131072 ≤ 131071 = omega arith in
     (omega (arith, mul-le-mul p p), (omega (arith, mul-le-mul p q), (omega (arith, mul-le-mul q q), tt)))
 

@@ -1,7 +1,4 @@
-use mathlib.Core.Path.{_≡_}
 use lib.IntN.{_*ℤ_}
-use mir.Syntax.{w32, w64}
-use mir.Val.{toZ, ofZ}
 use Rattle.sky.proofs.Signed.{coordinate-32, coordinate-64, product-bound, product-64}
 use Rattle.sky.proofs.cross.times.Needs as need
 

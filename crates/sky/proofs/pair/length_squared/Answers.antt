@@ -7,4 +7,4 @@ use Rattle.sky.proofs.pair.length_squared.Needs as need
 
 pub returns : need.returns
 returns c =
-    sym (squares (vector (c .args .d)) _ _ _ (c .unsigned-abs-x .ensures .value ∙ ap natAbs (coordinate-32 (c .args .d .x) (c .args .d .sound .0))) (c .unsigned-abs-y .ensures .value ∙ ap natAbs (coordinate-32 (c .args .d .y) (c .args .d .sound .1))) (c .unsigned-abs-z .ensures .value ∙ ap natAbs (coordinate-32 (c .args .d .z) (c .args .d .sound .2))))
+    sym (squares (vector (c .args .d)) _ _ _ (c .unsigned-abs-x .ensures .value ∙ ap natAbs (coordinate-32 (c .args .d .x) (c .args .d .sound .0 .0))) (c .unsigned-abs-y .ensures .value ∙ ap natAbs (coordinate-32 (c .args .d .y) (c .args .d .sound .0 .1))) (c .unsigned-abs-z .ensures .value ∙ ap natAbs (coordinate-32 (c .args .d .z) (c .args .d .sound .0 .2))))

@@ -4,7 +4,7 @@ use Rattle.wide.specs.Value.{value}
 use Rattle.wide.proofs.divide.high_parts.Given as given
 
 abbrev pub Inv-loop-part : given.InvT-loop-part
-Inv-loop-part l = dividend (l .so-far) (l .divisor .wide) ≡ dividend (l .entry .so-far) (l .divisor .wide)
+Inv-loop-part l = dividend (l .so-far) (l .divisor .number) ≡ dividend (l .entry .so-far) (l .divisor .number)
 
 abbrev pub μ-loop-part : given.MeasureT-loop-part
 μ-loop-part l = value (l .so-far .remainder)

@@ -11,5 +11,5 @@ pub returns : need.returns
 returns c =
     record {
       whole = again _ _ _ _ _ (c .args .divisor .positive) (c .pre .part) (c .times .ensures) _ _ (c .in-Some .ensures tt) (c .in-Some-checked-add .ensures tt);
-      less = less _ (value (c .args .so-far .quotient)) _ _ _ (c .args .divisor .positive) (c .pre .part) (c .times .ensures) _ (c .in-Some .ensures tt);
+      more = c .in-Some-checked-add .ensures tt; less = less _ (value (c .args .so-far .quotient)) _ _ _ (c .args .divisor .positive) (c .pre .part) (c .times .ensures) _ (c .in-Some .ensures tt);
     }
