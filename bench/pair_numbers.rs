@@ -20,8 +20,8 @@ fn direction(stars: &[u32], s: usize) -> [i64; 3] {
     [0, 1, 2].map(|i| i64::from(stars[3 * s + i]) - ORIGIN)
 }
 
-fn length_squared(d: [i64; 3]) -> u128 {
-    d.iter().map(|&c| (c * c) as u128).sum()
+fn length_squared(d: [i64; 3]) -> u64 {
+    d.iter().map(|&c| (c * c) as u64).sum()
 }
 
 fn pair_number(d: [i64; 3], e: [i64; 3]) -> u32 {
@@ -30,8 +30,10 @@ fn pair_number(d: [i64; 3], e: [i64; 3]) -> u32 {
         d[2] * e[0] - d[0] * e[2],
         d[0] * e[1] - d[1] * e[0],
     ];
-    let squares: u128 = cross.iter().map(|&c| u128::from(c.unsigned_abs()).pow(2)).sum();
-    ((squares << 24) / (length_squared(d) * length_squared(e))) as u32
+    let square = |c: i64| u128::from(c.unsigned_abs()) * u128::from(c.unsigned_abs());
+    let squares: u128 = cross.iter().map(|&c| square(c)).sum();
+    let whole = u128::from(length_squared(d)) * u128::from(length_squared(e));
+    ((squares << 24) / whole) as u32
 }
 
 fn plain(stars: &[u32]) -> u64 {
@@ -46,7 +48,7 @@ fn plain(stars: &[u32]) -> u64 {
     sum
 }
 
-/// Stars all over the sky, by a generator of its own (xorshift), of lengths up to that of the corners of the range.
+/// Stars all over the sky, with coordinates from -`largest` to `largest`, by a generator of its own (xorshift).
 fn random_stars(mut seed: u64, largest: i64) -> Vec<u32> {
     let mut next = move || {
         seed ^= seed << 13;
@@ -70,8 +72,8 @@ fn time(work: fn(&[u32]) -> u64, stars: &[u32]) -> Duration {
 
 fn main() {
     let pairs = STARS * (STARS - 1) / 2;
-    println!("numbers of all {pairs} pairs of {STARS} stars, median of {ROUNDS} rounds");
-    println!("{:<28} {:>12} {:>12} {:>7}", "coordinates up to", "proved", "plain u128", "ratio");
+    println!("The numbers of all {pairs} pairs of {STARS} stars: median of {ROUNDS} rounds, and that for one pair.");
+    println!("{:<18} {:>20} {:>20} {:>7}", "coordinates up to", "proved", "plain u128", "ratio");
     for largest in [65_535, 1_000, 30] {
         let stars = random_stars(0x9e37_79b9_7f4a_7c15, largest);
         assert_eq!(proved(&stars), plain(&stars), "the two sums differ");
@@ -81,10 +83,10 @@ fn main() {
             theirs.push(time(plain, &stars));
         }
         let (ours, theirs) = (median(ours), median(theirs));
-        let each = |d: Duration| d.as_nanos() as f64 / pairs as f64;
-        println!(
-            "{:<28} {:>9.1} ns {:>9.1} ns {:>7.2}",
-            largest, each(ours), each(theirs), each(ours) / each(theirs)
-        );
+        let shown = |d: Duration| {
+            format!("{} us, {:.1} ns", d.as_micros(), d.as_nanos() as f64 / pairs as f64)
+        };
+        let ratio = ours.as_secs_f64() / theirs.as_secs_f64();
+        println!("{largest:<18} {:>20} {:>20} {ratio:>7.2}", shown(ours), shown(theirs));
     }
 }

@@ -2,12 +2,11 @@
 use mathlib.Core.Path.{_≡_, sym, ap, subst}
 use mathlib.Core.Logic.{⊎-elim}
 use Prim.Native.Nat.{ℕ, _+_, _*_, _/_, _^_, _≤_, _<_}
-use native.Mathlib.Nat.{mul-le-mul-left, mul-le-mul-right, div-mul-le-self}
+use native.Mathlib.Nat.{mul-le-mul, mul-le-mul-left, mul-le-mul-right, div-mul-le-self}
 use native.Mathlib.Omega.{arith}
 use Rattle.std.proofs.shelf.Bits.{le-div, div-below, mod-below, pow-pos, shr-split, div-add-mod'}
 use Rattle.std.proofs.shelf.Tests.{cases-lt}
 use Rattle.wide.specs.Divided.{Part}
-use Rattle.wide.specs.Leading.{Short}
 
 -- the divisor d is above 0 and at most t with i zeros behind it; n without its last i bits is m
 module _ (n d t i m : ℕ) (p : 0 < d) (h : d ≤ t * 2 ^ i) (l : m ≡ n / 2 ^ i) where
@@ -16,7 +15,7 @@ module _ (n d t i m : ℕ) (p : 0 < d) (h : d ≤ t * 2 ^ i) (l : m ≡ n / 2 ^ 
       ⊎-elim (λ k. k) (λ k. let z : t ≡ 0 = omega arith in absurd (omega (arith, ap (λ v. v * 2 ^ i) z))) (cases-lt 0 t)
 
   -- where v goes into m at a place s, v / t goes into n / d there
-  goes-into : (v s : ℕ) → v * s ≤ m → v / t * s * d ≤ n
+  pub goes-into : (v s : ℕ) → v * s ≤ m → v / t * s * d ≤ n
   goes-into v s k =
       let e : v / t * t * s ≤ v * s = mul-le-mul-right s (div-mul-le-self v t) in
       let f : v * s * 2 ^ i ≤ m * 2 ^ i = mul-le-mul-right (2 ^ i) k in
@@ -39,24 +38,14 @@ module _ (n d t i m : ℕ) (p : 0 < d) (h : d ≤ t * 2 ^ i) (l : m ≡ n / 2 ^ 
       let c : m / t + 1 ≤ 2 ^ 32 = omega (arith, div-below m t (2 ^ 32) t-positive (omega arith)) in
       omega (arith, upper, mul-le-mul-right (2 ^ i) a, b, mul-le-mul-right d c)
 
-  pub near-one : t * 2 ^ i * 2 ^ 31 ≤ d * (2 ^ 31 + 1) → m < t → n < 4 * d
-  near-one q s =
-      let a : t ≤ t * 2 ^ 32 = omega arith in
-      let z : m / t < 1 = div-below m t 1 t-positive (omega arith) in
-      let b : (m / t + 3) * d ≤ 4 * d = mul-le-mul-right d (omega arith) in
-      omega (arith, near-part q (omega arith), b)
-
--- what is less than something short is short
-pub still-short : (n k t i : ℕ) → k ≤ n → Short n t i → Short k t i
-still-short n k t i h s = omega (arith, le-div (k / 2 ^ i) n (2 ^ i) (pow-pos i) (omega (arith, div-mul-le-self k (2 ^ i))), s)
-
 -- ---- with p more in the quotient, p d less is left
-module _ (d q r p m : ℕ) (z : 0 < d) (t : Part r d p) (e : m ≡ p * d) where
-  pub room : (b : ℕ) → q * d + r < b → b ≤ q + p → ⊥
-  room b k l = omega (arith, t .fits, mul-le-mul-right d l, mul-le-mul-left b z)
+module _ (d q r p : ℕ) (z : 0 < d) (t : p * d ≤ r) where
+  pub room : (b : ℕ) → q * d + r < b → q + p < b
+  room b k = omega (arith, t, mul-le-mul-left (q + p) z)
 
-  pub again : (q₂ r₂ : ℕ) → r₂ + m ≡ r → q₂ ≡ q + p → q₂ * d + r₂ ≡ q * d + r
-  again q₂ r₂ f g = omega (arith, ap (λ v. v * d) g)
+  pub again : (m q₂ r₂ : ℕ) → m ≡ p * d → r₂ + m ≡ r → q₂ ≡ q + p → q₂ * d + r₂ ≡ q * d + r
+  again m q₂ r₂ e f g = omega (arith, ap (λ v. v * d) g)
 
-  pub less : (r₂ : ℕ) → r₂ + m ≡ r → r₂ < r
-  less r₂ f = let s : 1 ≤ m = omega (arith, mul-le-mul-left p z, t .some) in omega arith
+-- where p is not 0, less is left
+pub less : (d r p r₂ : ℕ) → 0 < d → 0 < p → r₂ + p * d ≡ r → r₂ < r
+less d r p r₂ z s e = omega (arith, mul-le-mul {n₁ = 1} {m₁ = 1} s z)

@@ -10,10 +10,14 @@ use crate::divisor::Divisor;
 use crate::order::WidePartialEq;
 use crate::order::WidePartialOrd;
 use crate::sums::WideFrom;
+use crate::sums::difference;
+use crate::sums::sum;
 use crate::wide::Wide;
 use crate::wide::WideDebug;
 
 const ZERO: Wide = Wide { high: 0, low: 0 };
+
+const ONE: Wide = Wide { high: 0, low: 1 };
 
 /// How often a divisor goes into a number, and what is left.
 #[derive(Clone, Copy, Debug)]
@@ -37,20 +41,13 @@ fn times(a: Wide, b: Wide) -> Wide
 /// Takes a divisor off a number `part` times: the quotient grows by what the remainder loses.
 fn take_off(so_far: Division, part: Wide, divisor: Divisor) -> Division
     requires whole { ⌜ dividend «so_far» (divisor .number) < 2 ^ 128 ⌝ }
-    requires part { ⌜ Part (value («so_far» .remainder)) (value (divisor .number)) (value part) ⌝ }
+    requires fits { ⌜ value part * value (divisor .number) ≤ value («so_far» .remainder) ⌝ }
     ensures whole { λ r. ⌜ dividend r (divisor .number) ≡ dividend «so_far» (divisor .number) ⌝ }
-    ensures more { λ r. ⌜ value (r .quotient) ≡ value («so_far» .quotient) + value part ⌝ }
-    ensures less { λ r. ⌜ value (r .remainder) < value («so_far» .remainder) ⌝ }
+    ensures less { λ r. ⌜ value (r .remainder) + value part * value (divisor .number) ≡ value («so_far» .remainder) ⌝ }
 {
-    let Some(remainder) = so_far.remainder.checked_sub(times(part, divisor.number)) else {
-        unreachable();
-    };
-    let Some(quotient) = so_far.quotient.checked_add(part) else {
-        unreachable();
-    };
     Division {
-        quotient,
-        remainder,
+        quotient: sum(so_far.quotient, part),
+        remainder: difference(so_far.remainder, times(part, divisor.number)),
     }
 }
 
@@ -72,22 +69,8 @@ fn high_part(number: Wide, divisor: Divisor) -> Option<Wide>
     None
 }
 
-/// All of a short quotient from 1 on, or all but two.
-fn low_part(number: Wide, divisor: Divisor) -> u32
-    requires short { ⌜ Short (value number) (divisor .top) (divisor .shift) ⌝ }
-    requires once { ⌜ value (divisor .number) ≤ value number ⌝ }
-    ensures part { λ r. ⌜ Part (value number) (value (divisor .number)) r ⌝ }
-    ensures near { λ r. ⌜ value number < (r + 3) * value (divisor .number) ⌝ }
-{
-    let lead = number.without_last(divisor.shift);
-    if lead.low < divisor.top {
-        return 1;
-    }
-    (lead.low / divisor.top) as u32
-}
-
-/// What is left of a division whose quotient is short, and the quotient up to there.
-fn high_parts(number: Wide, divisor: Divisor) -> Division
+/// What is left of a division when the quotient has become short, and the quotient up to there.
+fn take_high_parts(number: Wide, divisor: Divisor) -> Division
     ensures whole { λ r. ⌜ dividend r (divisor .number) ≡ value number ⌝ }
     ensures short { λ r. ⌜ Short (value (r .remainder)) (divisor .top) (divisor .shift) ⌝ }
 {
@@ -101,17 +84,43 @@ fn high_parts(number: Wide, divisor: Divisor) -> Division
     so_far
 }
 
+/// A short quotient, or up to two less.
+fn low_part(number: Wide, divisor: Divisor) -> u32
+    requires { ⌜ Short (value number) (divisor .top) (divisor .shift) ⌝ }
+    ensures fits { λ r. ⌜ r * value (divisor .number) ≤ value number ⌝ }
+    ensures near { λ r. ⌜ value number < (r + 3) * value (divisor .number) ⌝ }
+{
+    let lead = number.without_last(divisor.shift);
+    (lead.low / divisor.top) as u32
+}
+
+/// Takes the divisor off twice at most.
+fn take_last_two(mut so_far: Division, divisor: Divisor) -> Division
+    requires whole { ⌜ dividend «so_far» (divisor .number) < 2 ^ 128 ⌝ }
+    requires near { ⌜ value («so_far» .remainder) < 3 * value (divisor .number) ⌝ }
+    ensures { λ r. ⌜ Divided (dividend «so_far» (divisor .number)) (value (divisor .number)) (value (r .quotient)) (value (r .remainder)) ⌝ }
+{
+    for _turn in 0..2u32 {
+        if so_far.remainder < divisor.number {
+            return so_far;
+        }
+        so_far = take_off(so_far, ONE, divisor);
+    }
+    so_far
+}
+
 impl Wide {
-    /// Quotient and remainder. A quotient of at most 32 bits takes three turns at most.
+    /// Quotient and remainder. A quotient below 2^32 takes one division of words, and the divisor is
+    /// taken off three times at most.
     pub fn divided_by(self, divisor: Divisor) -> Division
         ensures { λ r. ⌜ Divided (value self) (value (divisor .number)) (value (r .quotient)) (value (r .remainder)) ⌝ }
     {
-        let mut so_far = high_parts(self, divisor);
-        while so_far.remainder >= divisor.number {
-            let part = low_part(so_far.remainder, divisor);
-            so_far = take_off(so_far, Wide::from(part as u64), divisor);
-        }
-        so_far
+        let so_far = take_high_parts(self, divisor);
+        let part = low_part(so_far.remainder, divisor);
+        take_last_two(
+            take_off(so_far, Wide::from(part as u64), divisor),
+            divisor,
+        )
     }
 
     /// Quotient and remainder, or `None` where the divisor is 0.

@@ -3,6 +3,8 @@ ghost use mathlib.Core.Path.{_≡_};
 ghost use Prim.Native.Nat.{_+_, _*_, _≤_, _<_, _^_};
 ghost use Rattle.std.specs.Options.{Cases};
 ghost use Rattle.wide.specs.Value.{value};
+use crate::order::WidePartialEq;
+use crate::order::WidePartialOrd;
 use crate::wide::Wide;
 
 pub impl From<u64> for Wide as WideFrom {
@@ -10,6 +12,30 @@ pub impl From<u64> for Wide as WideFrom {
 
     fn from(word: u64) -> Wide {
         Wide { high: 0, low: word }
+    }
+}
+
+/// A sum that fits 128 bits.
+pub(crate) fn sum(a: Wide, b: Wide) -> Wide
+    requires { ⌜ value a + value b < 2 ^ 128 ⌝ }
+    ensures { λ r. ⌜ value r ≡ value a + value b ⌝ }
+{
+    let (low, carry) = a.low.overflowing_add(b.low);
+    Wide {
+        high: a.high + b.high + u64::from(carry),
+        low,
+    }
+}
+
+/// A difference that is not below 0.
+pub(crate) fn difference(a: Wide, b: Wide) -> Wide
+    requires { ⌜ value b ≤ value a ⌝ }
+    ensures { λ r. ⌜ value r + value b ≡ value a ⌝ }
+{
+    let (low, borrow) = a.low.overflowing_sub(b.low);
+    Wide {
+        high: a.high - b.high - u64::from(borrow),
+        low,
     }
 }
 
@@ -29,11 +55,10 @@ impl Wide {
     pub fn checked_sub(self, other: Wide) -> Option<Wide>
         ensures { λ r. ⌜ Cases r (value self < value other) (λ w. value w + value other ≡ value self) ⌝ }
     {
-        let (low, borrow) = self.low.overflowing_sub(other.low);
-        let high = self.high
-            .checked_sub(other.high)?
-            .checked_sub(u64::from(borrow))?;
-        Some(Wide { high, low })
+        if self < other {
+            return None;
+        }
+        Some(difference(self, other))
     }
 
     /// The product of two words, by their halves.

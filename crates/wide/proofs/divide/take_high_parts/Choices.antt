@@ -1,7 +1,7 @@
 use mathlib.Core.Path.{_≡_}
 use Rattle.wide.specs.Dividend.{dividend}
 use Rattle.wide.specs.Value.{value}
-use Rattle.wide.proofs.divide.high_parts.Given as given
+use Rattle.wide.proofs.divide.take_high_parts.Given as given
 
 abbrev pub Inv-loop-part : given.InvT-loop-part
 Inv-loop-part l = dividend (l .so-far) (l .divisor .number) ≡ dividend (l .entry .so-far) (l .divisor .number)
