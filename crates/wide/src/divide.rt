@@ -117,10 +117,7 @@ impl Wide {
     {
         let so_far = take_high_parts(self, divisor);
         let part = low_part(so_far.remainder, divisor);
-        take_last_two(
-            take_off(so_far, Wide::from(part as u64), divisor),
-            divisor,
-        )
+        take_last_two(take_off(so_far, Wide::from(part as u64), divisor), divisor)
     }
 
     /// Quotient and remainder, or `None` where the divisor is 0.

@@ -15,6 +15,7 @@ pub returns : need.returns
 returns c =
     let e : value (c .without-last-lead .result) ≡ c .without-last-lead .result .low = omega (arith, c .pre) in
     let s : value (c .without-last-lead .result) < c .args .divisor .top * 2 ^ 32 = omega (arith, c .pre) in
-    record
-    { fits = omega (arith, goes-into _ _ _ _ _ (c .args .divisor .positive) (c .args .divisor .covers) (c .without-last-lead .ensures) (c .without-last-lead .result .low) 1 (omega arith))
-    ; near = subst (λ w. value (c .args .number) < (w / c .args .divisor .top + 3) * value (c .args .divisor .number)) e (near-part _ _ _ _ _ (c .args .divisor .positive) (c .args .divisor .covers) (c .without-last-lead .ensures) (c .args .divisor .near) s) }
+    record {
+      fits = omega (arith, goes-into _ _ _ _ _ (c .args .divisor .positive) (c .args .divisor .covers) (c .without-last-lead .ensures) (c .without-last-lead .result .low) 1 (omega arith));
+      near = subst (λ w. value (c .args .number) < (w / c .args .divisor .top + 3) * value (c .args .divisor .number)) e (near-part _ _ _ _ _ (c .args .divisor .positive) (c .args .divisor .covers) (c .without-last-lead .ensures) (c .args .divisor .near) s);
+    }
