@@ -53,7 +53,7 @@ fn take_off(so_far: Division, part: Wide, divisor: Divisor) -> Division
 
 /// A part of a long quotient, from the leading bits alone; none where the quotient is short.
 fn high_part(number: Wide, divisor: Divisor) -> Option<Wide>
-    ensures { λ r. ⌜ Cases r (Short (value number) (divisor .top) (divisor .shift)) (λ p. Part (value number) (value (divisor .number)) (value p)) ⌝ }
+    ensures { λ r. ⌜ Cases r (Short (value number) (divisor .top) (divisor .shift)) (λ p. Part (value number) (value (divisor .number)) (value p) × (Short (value number) (divisor .top) (divisor .shift) → ⊥)) ⌝ }
 {
     let lead = number.without_last(divisor.shift);
     if lead.high >= divisor.top {
