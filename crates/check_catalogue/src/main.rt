@@ -1,4 +1,6 @@
 // Checks whether the groups of stars of a catalogue can be told apart.
+#![tactic(auto)]
+
 use console::{Stopped, run};
 use text::check_catalogue::CheckCatalogue;
 

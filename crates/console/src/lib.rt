@@ -1,4 +1,6 @@
 // Runs a program on a file or on standard input: the part that reaches outside, with no rule of its own.
+#![tactic(auto)]
+
 use std::env;
 use std::fmt::Display;
 use std::fs::File;
@@ -45,7 +47,15 @@ fn answer_text<P: Program, R: Read + Drop>(
     source: &str,
     text: R,
 ) -> Result<(), Stopped> {
-    for (i, line) in BufReader::new(text).lines(rt.alloc()).enumerate() {
+    let reader = match BufReader::new(rt.alloc(), text) {
+        Ok(reader) => reader,
+        Err(error) => {
+            let name = program.name();
+            let _ = eprintln!(rt; "{name}: {source} cannot be read: {error}");
+            return Err(Stopped);
+        }
+    };
+    for (i, line) in reader.lines(rt.alloc()).enumerate() {
         let number = i + 1;
         match line {
             Ok(line) => answer_line(

@@ -1,4 +1,6 @@
 // Names the spots of the pictures of a text.
+#![tactic(auto)]
+
 use console::{Stopped, run};
 use text::name_pictures::NamePictures;
 

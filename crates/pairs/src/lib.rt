@@ -1,4 +1,6 @@
 // The table of all pairs of a catalogue, in lent memory.
+#![tactic(auto)]
+
 pub mod filling;
 mod halving;
 pub mod layout;

@@ -1,4 +1,6 @@
 // Requests, and the first reason for which one is turned away.
+#![tactic(auto)]
+
 pub mod checks;
 pub mod limits;
 pub mod one_answer;

@@ -1,6 +1,6 @@
 -- Directions, and those of a list of vectors. Assumes nothing: these are definitions.
 use Rattle.std.specs.Prelude.{◌≡◌, ℕ, List, Option, MatchOption}
-use Rattle.sky.specs.Vectors.{Vector, vec, Sound, star_at, star_pair_number}
+use Rattle.sky.specs.Vectors.{Vector, vec, Sound, star_at, pair_number}
 use Rattle.sky.specs.declared.direction.Direction.{Direction}
 
 -- the vector of a direction
@@ -14,4 +14,4 @@ DirectionOf v r = MatchOption r (Sound v → ⊥) (λ d. vector d ≡ v)
 -- the number of the pair of stars i and j, or none where one of them is no direction
 abbrev pub NumberOf : List Vector → ℕ → ℕ → Option ℕ → Type 0
 NumberOf vs i j r =
-    MatchOption r (Sound (star_at vs i) × Sound (star_at vs j) → ⊥) (λ n. n ≡ star_pair_number vs i j)
+    MatchOption r (Sound (star_at vs i) × Sound (star_at vs j) → ⊥) (λ n. n ≡ pair_number (star_at vs i) (star_at vs j))

@@ -1,4 +1,6 @@
 // Stars, spots and directions, and the number of a pair of directions.
+#![tactic(auto)]
+
 mod cross;
 pub mod direction;
 pub mod index;

@@ -34,7 +34,7 @@ pub fn pair_number(d: Direction, e: Direction) -> u32
 
 /// The number of a pair of stars, or `None` where one of them is no direction.
 pub fn star_pair_number<S: Stars>(stars: &S, s: Star, t: Star) -> Option<u32>
-    ensures { NumberOf (directions stars.now) s.0 t.0 result }
+    ensures { NumberOf (S.directions stars.now) s.0 t.0 result }
 {
     Some(pair_number(stars.direction(s)?, stars.direction(t)?))
 }

@@ -1,4 +1,6 @@
 // Texts of catalogues, pictures and requests, line by line, and the answers to them.
+#![tactic(auto)]
+
 pub mod answer;
 pub mod check_catalogue;
 mod directions;

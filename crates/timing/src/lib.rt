@@ -1,4 +1,6 @@
 // What the benchmarks time: entries for programs outside of the repository's crates to call.
+#![tactic(auto)]
+
 ghost use Rattle.std.specs.Prelude.{◌≡◌, ◌%◌, ◌^◌, ◌<◌, length};
 ghost use Rattle.sky.specs.Lent.{vectors};
 ghost use Rattle.timing.specs.Sums.{AllSound, sum_of_row, sum_of_all};

@@ -1,4 +1,6 @@
 // Prints the number of each pair of directions that it reads, for the gate to compare with what another program computed.
+#![tactic(auto)]
+
 use anyhow::anyhow;
 use sky::lent::ORIGIN;
 use sky::{Direction, pair_number};

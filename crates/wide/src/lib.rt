@@ -1,4 +1,6 @@
 // Whole numbers of 128 bits, kept in two words of 64 bits.
+#![tactic(auto)]
+
 pub mod divide;
 pub mod divisor;
 pub mod order;

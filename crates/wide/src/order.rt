@@ -1,9 +1,10 @@
 // Numbers of two words compare by their values.
-ghost use Rattle.std.specs.Prelude.{◌≡◌, IsSomeAnd, Decides};
-ghost use Rattle.wide.specs.Value.{value, Compared};
+ghost use Rattle.std.specs.Prelude.{◌==◌};
+ghost use Rattle.std.specs.Cmp.{partial_equiv_from_equiv, partial_order_from_own_ties};
 ghost use Rattle.std.specs.Cmp.Rules.{comparing};
+ghost use Rattle.std.specs.Ordering.{nat_cmp, on, as_partial_cmp};
 ghost use Rattle.std.proofs.Common.{rules};
-ghost use Rattle.std.specs.Cmp as Keys;
+ghost use Rattle.wide.specs.Value.{value, Compared};
 
 use crate::wide::Wide;
 use std::cmp::Ordering;
@@ -22,9 +23,9 @@ fn compare(a: Wide, b: Wide) -> Ordering
 }
 
 impl PartialEq for Wide {
-    ghost equals = { λ a b r. Decides r (value a ≡ value b) };
+    ghost eq = { on value ◌==◌ };
 
-    ghost laws = { Keys.partial_equiv_from_equiv (Prim.search (comparing, rules)) };
+    ghost laws = { partial_equiv_from_equiv (Prim.search (comparing, rules)) };
 
     fn eq(&self, other: &Wide) -> bool {
         self.cmp(other).is_eq()
@@ -36,9 +37,9 @@ impl Eq for Wide {
 }
 
 impl PartialOrd for Wide {
-    ghost compares = { λ a b r. IsSomeAnd r (Compared a b) };
+    ghost partial_cmp = { as_partial_cmp (on value nat_cmp) };
 
-    ghost laws = { Prim.search (comparing, rules) };
+    ghost laws = { partial_order_from_own_ties (Prim.search (comparing, rules)) (Prim.search (comparing, rules)) };
 
     fn partial_cmp(&self, other: &Wide) -> Option<Ordering> {
         Some(self.cmp(other))
@@ -46,7 +47,7 @@ impl PartialOrd for Wide {
 }
 
 impl Ord for Wide {
-    ghost orders = { Compared };
+    ghost cmp = { on value nat_cmp };
 
     ghost total = { Prim.search (comparing, rules) };
 

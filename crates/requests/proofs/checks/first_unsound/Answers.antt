@@ -6,4 +6,4 @@ use Rattle.requests.proofs.checks.first_unsound.Goals as goal
 
 pub loop-i-preserved : goal.loop-i-preserved
 loop-i-preserved c =
-    below_more _ _ c.loop-i.invariant (made_sound (star_at (vectors c.args.numbers.now) c.loop-i.i) c.direction_at.result c.direction_at.ensures c.if-is-none.ensures)
+    below_more _ _ c.loop-i.invariant (made_sound (star_at (vectors c.args.numbers.now) c.loop-i.i) c.direction_at.result c.direction_at.ensures c.if-is_none.ensures)

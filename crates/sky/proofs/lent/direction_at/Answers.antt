@@ -8,4 +8,4 @@ returns-then-i-numbers c =
     λ h. (subst Sound (vectors_past c.args.numbers.now c.args.i c.if-i-numbers.true) h).1 (refl, refl, refl)
 
 pub returns : goal.returns
-returns c = direction_at c.args.numbers.now c.args.i c.from-lent.result c.if-i-numbers.false c.from-lent.ensures
+returns c = direction_at c.args.numbers.now c.args.i c.from_lent.result c.if-i-numbers.false c.from_lent.ensures

@@ -6,4 +6,4 @@ use Rattle.sky.proofs.pair.length_squared.Goals as goal
 
 pub returns : goal.returns
 returns c =
-    sym (squares (vector c.args.d) _ _ _ (c.unsigned-abs-x.ensures.value ∙ ap nat_abs (coordinate_32 c.args.d.x c.args.d.sound.0.0)) (c.unsigned-abs-y.ensures.value ∙ ap nat_abs (coordinate_32 c.args.d.y c.args.d.sound.0.1)) (c.unsigned-abs-z.ensures.value ∙ ap nat_abs (coordinate_32 c.args.d.z c.args.d.sound.0.2)))
+    sym (squares (vector c.args.d) _ _ _ (c.unsigned_abs-x.ensures.value ∙ ap nat_abs (coordinate_32 c.args.d.x c.args.d.sound.0.0)) (c.unsigned_abs-y.ensures.value ∙ ap nat_abs (coordinate_32 c.args.d.y c.args.d.sound.0.1)) (c.unsigned_abs-z.ensures.value ∙ ap nat_abs (coordinate_32 c.args.d.z c.args.d.sound.0.2)))

@@ -6,4 +6,4 @@ use Rattle.wide.proofs.divide.take_last_two.Given as goal
 
 abbrev pub invariant-loop-turn : goal.invariant-loop-turn
 invariant-loop-turn l =
-    (dividend l.so-far l.divisor.number ≡ dividend l.initial.so-far l.divisor.number) × (value l.so-far.remainder + l.-turn * value l.divisor.number < 3 * value l.divisor.number)
+    (dividend l.so_far l.divisor.number ≡ dividend l.initial.so_far l.divisor.number) × (value l.so_far.remainder + l._turn * value l.divisor.number < 3 * value l.divisor.number)

@@ -10,4 +10,4 @@ returns-then-number-gt0 c = record { past = two_words c.args.number.high c.args.
 pub returns-else-number-gt0 : goal.returns-else-number-gt0
 returns-else-number-gt0 c =
     let e : c.args.number.low ≡ value c.args.number = omega arith in
-    record { past = subst (λ n. Past32 n c.saturating-sub.result) e (one_word c.args.number.low c.saturating-sub.result (omega arith) c.saturating-sub.ensures); bound = omega arith }
+    record { past = subst (λ n. Past32 n c.saturating_sub.result) e (one_word c.args.number.low c.saturating_sub.result (omega arith) c.saturating_sub.ensures); bound = omega arith }

@@ -7,8 +7,8 @@ use Rattle.wide.proofs.wide.Wide.without_last.Goals as goal
 a_word : (i : ℕ) → i < 64 → 2 ^ i * 2 ^ (64 - i) ≡ 2 ^ 64
 a_word i h = let e : i + (64 - i) ≡ 64 = omega arith in sym (pow-add 2 i (64 - i)) ∙ ap (λ j. 2 ^ j) e
 
-pub overflow-add-result : goal.overflow-add-result
-overflow-add-result c = record { fits = low_digit c.args.self.high c.args.self.low _ _ _ (a_word c.args.by c.if-by-lt64.true) (pow_pos c.args.by) (pow_pos (64 - c.args.by)) (omega arith) }
+pub overflow_add-result : goal.overflow_add-result
+overflow_add-result c = record { fits = low_digit c.args.self.high c.args.self.low _ _ _ (a_word c.args.by c.if-by-lt64.true) (pow_pos c.args.by) (pow_pos (64 - c.args.by)) (omega arith) }
 
 pub returns-then-by-lt64 : goal.returns-then-by-lt64
 returns-then-by-lt64 c = two_digits c.args.self.high c.args.self.low _ _ _ (a_word c.args.by c.if-by-lt64.true) (pow_pos c.args.by) (pow_pos (64 - c.args.by))
