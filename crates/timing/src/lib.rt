@@ -1,4 +1,4 @@
-// What the benchmarks time: entries for programs outside of the repository's crates to call.
+// What the benchmarks time; `timing_c` has the entries that programs outside of the repository's crates call.
 #![tactic(auto)]
 
 ghost use Rattle.std.specs.Prelude.{◌≡◌, ◌%◌, ◌^◌, ◌<◌, length};
@@ -26,8 +26,7 @@ fn sum_of_row(stars: LentStars<'_>, s: usize) -> u64
 }
 
 /// The sum of the numbers of all pairs of stars, modulo 2^64. Where a star is no direction, the sum means nothing.
-#[unsafe(no_mangle)]
-pub extern "C" fn sum_of_pair_numbers(stars: &[u32]) -> u64
+pub fn sum_of_pair_numbers(stars: &[u32]) -> u64
     ensures { AllSound (vectors stars.now) → result ≡ sum_of_all (vectors stars.now) % 2 ^ 64 }
 {
     let stars = LentStars(stars);
