@@ -1,10 +1,12 @@
 #!/usr/bin/env python3
 """Brings the names of this repository's definitions and lemmas to today's spelling.
 
-Run once at the top of the repository, after /opt/rattle/port/port.py. Types and facts get upper camel
-case (`None-holds` becomes `NoneHolds`), all other names snake case (`not-threes` becomes `not_threes`).
-Names that Rattle makes (goals, invariants, measures) stay, and so does all text outside of clauses,
-specs/ and proofs/. It stops where two names would fall together.
+Run once at the top of the repository, after the kit's port/port.py. Types and facts get upper camel case
+(`None-holds` becomes `NoneHolds`), all other names snake case (`not-threes` becomes `not_threes`).
+It turns the names that specs/ and proofs/ define, wherever they stand as words of their own in specs/,
+proofs/, src/ and must-fail/; in comments only between backquotes. Names that Rattle makes (goals,
+invariants, measures) and names given by `as` stay. It stops where two names that it turns would fall
+together, and prints a line `look:` where a new name stands somewhere already.
 """
 import glob
 import re

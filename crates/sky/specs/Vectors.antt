@@ -43,7 +43,3 @@ cross v w =
 -- the number of a pair: the square of the sine of the angle between the two, in parts of 2^24 = 16777216, rounded down
 unfoldable pub pair_number : Vector → Vector → ℕ
 pair_number v w = (16777216 * length² (cross v w)) / (length² v * length² w)
-
--- the number of the pair of stars i and j
-abbrev pub star_pair_number : List Vector → (i j : ℕ) → ℕ
-star_pair_number vs i j = pair_number (star_at vs i) (star_at vs j)

@@ -1,4 +1,4 @@
-// What the benchmarks call: an entry in C's way of calling for each function of `timing`.
+// What the benchmarks call: an entry in C's way of calling for each public function of `timing`.
 #![tactic(auto)]
 
 ghost use Rattle.std.specs.Prelude.{◌≡◌, ◌%◌, ◌^◌};
