@@ -1,15 +1,29 @@
 // Runs a program on a file or on standard input: the part that reaches outside, with no rule of its own.
 #![tactic(auto)]
 
+ghost use Rattle.std.specs.Prelude.{◌≡◌, MatchResult};
+
 use std::env;
 use std::fmt::Display;
 use std::fs::File;
 use std::io::{BufRead, BufReader, Read};
+use std::process::ExitCode;
 use text::program::Program;
 
 /// The program stopped, and has said on standard error why.
 #[derive(Clone, Copy, Debug)]
 pub struct Stopped;
+
+/// The status that a program ends with. `run` has said why it stopped, and an error that `main`
+/// returns would be printed behind that.
+pub fn status(outcome: Result<(), Stopped>) -> ExitCode
+    ensures { MatchResult outcome (λ _. result ≡ ExitCode.SUCCESS) (λ _. result ≡ ExitCode.FAILURE) }
+{
+    match outcome {
+        Ok(()) => ExitCode::SUCCESS,
+        Err(Stopped) => ExitCode::FAILURE,
+    }
+}
 
 /// Prints a line.
 fn print(rt: &HostRuntime, name: &str, line: impl Display + Drop) -> Result<(), Stopped> {

@@ -1,8 +1,6 @@
--- The integers are a commutative ring: the laws of the product that `lib.IntN` does not have, squares and amounts.
-use mathlib.Core.Path.{◌≡◌, refl, ◌∙◌, ap, ap₂}
-use Prim.Native.Nat.{ℕ, zero, suc, ◌+◌, ◌*◌}
-use native.Mathlib.Omega.{arith}
-use lib.IntN.{ℤ, pos, negsuc, ◌+ℤ◌, ◌*ℤ◌, neg_ℤ, nat_abs, *ℤ_comm}
+-- The integers are a commutative ring: the laws of the product that the library does not have, and squares.
+use Rattle.std.proofs.Common.{◌≡◌, refl, ◌∙◌, ap, ap₂, ℕ, ◌+◌, ◌*◌, arith, ℤ, pos, negsuc, ◌+ℤ◌, ◌*ℤ◌, neg_ℤ, nat_abs}
+use Rattle.std.proofs.Math.IntN.{*ℤ_comm}
 use borrow.Author.Differences.{up, down, same_in, sum_is_lem, product_is, neg_is}
 
 pub *ℤ_assoc : (a b c : ℤ) → (a *ℤ b) *ℤ c ≡ a *ℤ (b *ℤ c)
@@ -27,18 +25,7 @@ neg_ℤ_is a = same_in (neg_ℤ a) (negsuc 0 *ℤ a) (omega (arith, neg_is a, pr
 pub pos_inj : {m n : ℕ} → pos m ≡ pos n → m ≡ n
 pos_inj e = ap nat_abs e
 
--- ---- amounts
 -- a square is a natural number
 pub square_is : (a : ℤ) → a *ℤ a ≡ pos (nat_abs a * nat_abs a)
 square_is (pos n) = refl
 square_is (negsuc n) = refl
-
-abs_neg : (n : ℕ) → nat_abs (neg_ℤ (pos n)) ≡ n
-abs_neg zero = refl
-abs_neg (suc n) = refl
-
-pub product_amount : (a b : ℤ) → nat_abs (a *ℤ b) ≡ nat_abs a * nat_abs b
-product_amount (pos a) (pos b) = refl
-product_amount (pos a) (negsuc b) = abs_neg (a * suc b)
-product_amount (negsuc a) (pos b) = abs_neg (suc a * b)
-product_amount (negsuc a) (negsuc b) = refl

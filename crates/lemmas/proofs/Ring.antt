@@ -5,12 +5,8 @@
 --     three = ring 2 (λ a b. sq (a :+ b) :* num 3 := num 3 :* sq a :+ num 6 :* a :* b :+ sq b :* num 3) tt
 --
 -- `tt` is refused, as a `Unit` for a `⊥`, where the two sides are not the same polynomial. docs/PROVING.md has more on its use.
-use mathlib.Core.Path.{◌≡◌, refl, sym, ◌∙◌, ap, ap₂}
-use mathlib.Core.List.{List, [], ◌∷◌}
-use mathlib.Core.Bool.{Bool, true, false, ◌&&◌}
-use Prim.Native.Nat.{ℕ, zero, suc, ◌+◌, ◌*◌, ◌-◌}
-use lib.Dec.{T}
-use lib.IntN.{ℤ, pos, ◌+ℤ◌, ◌*ℤ◌, +ℤ_idl, -ℤ-+ℤ_cancel}
+use Rattle.std.proofs.Common.{◌≡◌, refl, sym, ◌∙◌, ap, ap₂, List, [], ◌∷◌, Bool, true, false, ◌&&◌, ℕ, zero, suc, ◌+◌, ◌*◌, ◌-◌, T, ℤ, pos, ◌+ℤ◌, ◌*ℤ◌}
+use Rattle.std.proofs.Math.IntN.{+ℤ_idl, -ℤ-+ℤ_cancel}
 use Rattle.lemmas.proofs.Integers.{pos_inj}
 use Rattle.lemmas.proofs.Polynomials.{Exp, var, num, ◌:+◌, ◌:-◌, ◌:*◌, sq, nth, den, norm, norm_sound, vanishes, ev_vanishes, both}
 

@@ -1,6 +1,6 @@
 -- The laws of the number of a pair: the same either way round, and at most 2^24.
 use Rattle.std.proofs.Common.{◌≡◌, ℕ, ◌+◌, ◌*◌, ◌/◌, ◌≤◌, ℤ, pos, ◌+ℤ◌, ◌*ℤ◌, sym, ◌∙◌, ap₂, mul_comm, arith}
-use native.Mathlib.Nat.{le_intro, div-le_of_le-mul}
+use Rattle.std.proofs.Math.Nat.{le_intro, div-le_of_le-mul}
 use Rattle.lemmas.proofs.Integers.{pos_inj, square_is}
 use Rattle.lemmas.proofs.Polynomials.{◌:+◌, ◌:-◌, ◌:*◌, sq}
 use Rattle.lemmas.proofs.Ring.{◌:=◌, ringℤ}

@@ -1,9 +1,8 @@
 -- Signed numbers that are small are read back from their bits as they were.
 use Rattle.std.proofs.Common.{◌≡◌, ◌*◌, ◌^◌, ◌<◌, ◌≤◌, ℤ, pos, negsuc, ◌-ℤ◌, ◌*ℤ◌, nat_abs, mul-le-mul, arith, to_z-of_z, w32, w64, SFits, to_z, of_z}
-use borrow.Author.Differences.{ints}
+use Rattle.std.proofs.lemmas.Int.{ints, unsigned_abs-mul}
 use mir.Syntax.{Width}
 use mir.Val.{hbits}
-use Rattle.lemmas.proofs.Integers.{product_amount}
 use Rattle.sky.specs.Vectors.{InRange}
 
 fits : (w : Width) (a : ℤ) → nat_abs a < 2 ^ hbits w → SFits w a
@@ -22,7 +21,7 @@ coordinate_64 a h = read_back w64 a (omega arith)
 
 -- ---- their products
 pub product_bound : (a b : ℤ) → InRange a → InRange b → nat_abs (a *ℤ b) ≤ 65535 * 65535
-product_bound a b h k = omega (arith, product_amount a b, mul-le-mul h k)
+product_bound a b h k = omega (arith, unsigned_abs-mul a b, mul-le-mul h k)
 
 pub product_64 : (p : ℤ) → nat_abs p ≤ 65535 * 65535 → to_z w64 (of_z w64 p) ≡ p
 product_64 p h = read_back w64 p (omega arith)

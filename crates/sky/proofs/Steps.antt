@@ -1,6 +1,6 @@
 -- The steps by which the code comes to the number of a pair.
 use Rattle.std.proofs.Common.{◌≡◌, ℕ, zero, suc, ◌+◌, ◌*◌, ◌/◌, ◌<◌, ℤ, pos, negsuc, nat_abs, sym, refl, ap, ◌∙◌, ap₂, ⊎_elim, eq-zero-or-pos, arith}
-use lib.Arith.{digits_div}
+use Rattle.std.proofs.Math.Arith.{digits_div}
 use Rattle.wide.specs.Divided.{Divided}
 use Rattle.sky.specs.Vectors.{Vector, Sound, square, length², cross, pair_number}
 

@@ -1,7 +1,7 @@
 -- Numbers without their last bits, and how many bits a number has.
 use Rattle.std.proofs.Common.{◌≡◌, ℕ, zero, suc, ◌+◌, ◌-◌, ◌*◌, ◌/◌, ◌%◌, ◌^◌, ◌<◌, ◌≤◌, sym, ap, ◌∙◌, subst, ⊎_elim, mul-le-mul_right, zero-lt-suc, mul_comm, mul-lt-mul_of_pos_right, arith, pow_mono}
-use native.Mathlib.Nat.{pow-succ'}
-use lib.Count.{count_leading_zeros}
+use Rattle.std.proofs.Math.Nat.{pow-succ'}
+use Rattle.std.specs.Int.Count.{count_leading_zeros}
 use Rattle.std.proofs.lemmas.Nat.{pow_pos, pow-add, shr-shr, shr_le, shr_high, shr_below, le-div, div-add-mod', div-mul-add, mod-mul-add, mul-add-lt, div_below, mod_below, shr_split, leading_length}
 use Rattle.std.proofs.lemmas.Bool.{cases_lt}
 use Rattle.wide.specs.Leading.{Past32}

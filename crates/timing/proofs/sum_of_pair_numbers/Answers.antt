@@ -1,5 +1,4 @@
-use native.Mathlib.Numerals.{add-one}
-use native.Mathlib.Omega.{arith}
+use Rattle.std.proofs.Common.{add-one, arith}
 use Rattle.timing.proofs.sum_of_pair_numbers.Goals as goal
 
 pub loop-s-preserved : goal.loop-s-preserved

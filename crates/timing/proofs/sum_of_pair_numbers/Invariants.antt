@@ -1,5 +1,4 @@
-use mathlib.Core.Path.{◌≡◌}
-use Prim.Native.Nat.{◌%◌, ◌^◌}
+use Rattle.std.proofs.Common.{◌≡◌, ◌%◌, ◌^◌}
 use Rattle.sky.specs.Lent.{vectors}
 use Rattle.timing.specs.Sums.{AllSound, sum_of_rows}
 use Rattle.timing.proofs.sum_of_pair_numbers.Given as goal

@@ -1,6 +1,4 @@
-use mathlib.Core.Path.{◌≡◌, ◌∙◌, ap₂}
-use native.Mathlib.Numerals.{add-one}
-use native.Mathlib.Omega.{arith}
+use Rattle.std.proofs.Common.{◌≡◌, ◌∙◌, ap₂, add-one, arith}
 use Rattle.sky.specs.Lent.{vectors}
 use Rattle.sky.specs.Vectors.{star_at, pair_number}
 use Rattle.timing.proofs.sum_of_row.Goals as goal

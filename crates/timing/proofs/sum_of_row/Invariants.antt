@@ -1,6 +1,4 @@
-use mathlib.Core.Path.{◌≡◌}
-use Prim.Native.Nat.{◌%◌, ◌^◌, ◌<◌}
-use lib.ListN.{length}
+use Rattle.std.proofs.Common.{◌≡◌, ◌%◌, ◌^◌, ◌<◌, length}
 use Rattle.sky.specs.Lent.{vectors}
 use Rattle.timing.specs.Sums.{AllSound, sum_of_row}
 use Rattle.timing.proofs.sum_of_row.Given as goal
