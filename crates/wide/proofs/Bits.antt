@@ -1,5 +1,5 @@
 -- Numbers without their last bits, and how many bits a number has.
-use Rattle.std.proofs.Common.{◌≡◌, ℕ, zero, suc, ◌+◌, ◌-◌, ◌*◌, ◌/◌, ◌%◌, ◌^◌, ◌<◌, ◌≤◌, sym, ap, ◌∙◌, subst, ⊎_elim, mul-le-mul_right, zero-lt-suc, mul_comm, mul-lt-mul_of_pos_right, arith, pow_mono}
+use Rattle.std.proofs.Common.{◌≡◌, ℕ, zero, suc, ◌+◌, ◌-◌, ◌*◌, ◌/◌, ◌%◌, ◌^◌, ◌<◌, ◌≤◌, sym, ap, ◌∙◌, subst, ⊎_elim, zero-lt-suc, mul_comm, mul-lt-mul_of_pos_right, arith, pow_mono}
 use Rattle.std.proofs.Math.Nat.{pow-succ'}
 use Rattle.std.specs.Int.Count.{count_leading_zeros}
 use Rattle.std.proofs.lemmas.Nat.{pow_pos, pow-add, shr-shr, shr_le, shr_high, shr_below, le-div, div-add-mod', div-mul-add, mod-mul-add, mul-add-lt, div_below, mod_below, shr_split, leading_length}
@@ -60,37 +60,17 @@ past_32 n m i b e = ⊎_elim long short (cases_lt 32 m)
         record { below = omega (arith, shr_le n i); full = λ z. absurd (omega arith) }
 
 -- ---- two words, by the zeros in front
-pub two_words : (h l i : ℕ) → 0 < h → h < 2 ^ 64 → l < 2 ^ 64 → i ≡ 96 - count_leading_zeros 64 h → Past32 (h * 2 ^ 64 + l) i
-two_words h l i p q r e =
+pub two_words : (n h l i : ℕ) → h * 2 ^ 64 + l ≡ n → 0 < h → h < 2 ^ 64 → l < 2 ^ 64 → i ≡ 96 - count_leading_zeros 64 h → Past32 n i
+two_words n h l i s p q r e =
     let (m, f, b, a) = leading_length 64 h q in
-    past_32 (h * 2 ^ 64 + l) (m + 64) i (with_a_word h l m p r (record { below = b; above = a })) (omega arith)
+    subst (λ k. Past32 k i) s (past_32 (h * 2 ^ 64 + l) (m + 64) i (with_a_word h l m p r (record { below = b; above = a })) (omega arith))
 
-pub one_word : (l i : ℕ) → l < 2 ^ 64 → i ≡ 32 - count_leading_zeros 64 l → Past32 l i
-one_word l i p e =
-    let (m, f, b, a) = leading_length 64 l p in past_32 l m i (record { below = b; above = a }) (omega arith)
+pub one_word : (n l i : ℕ) → l ≡ n → l < 2 ^ 64 → i ≡ 32 - count_leading_zeros 64 l → Past32 n i
+one_word n l i s p e =
+    let (m, f, b, a) = leading_length 64 l p in
+    subst (λ k. Past32 k i) s (past_32 l m i (record { below = b; above = a }) (omega arith))
 
 -- ---- a number and its leading bits
 pub none_left : (n i : ℕ) → Past32 n i → n / 2 ^ i ≡ 0 → n ≡ 0
 none_left n zero h e = omega (arith, shr_split n 0)
 none_left n (suc i) h e = absurd (omega (arith, h.full (zero-lt-suc i)))
-
--- t, with i zeros behind it, is at least n, above 0, and little more
-pub record Leads (n t i : ℕ) : Type 0 where
-  pub positive : 0 < n
-  pub covers : n ≤ t * 2 ^ i
-  pub near : t * 2 ^ i * 2 ^ 31 ≤ n * (2 ^ 31 + 1)
-  pub short : t ≤ 2 ^ 32
-
-no_rest : (n i : ℕ) → i ≡ 0 → n % 2 ^ i ≡ 0
-no_rest n i z = let e : n % 2 ^ i ≡ n % 1 = ap (λ j. n % 2 ^ j) z in omega arith
-
-pub leads_whole : (n i t : ℕ) → Past32 n i → i ≡ 0 → t ≡ n / 2 ^ i → (t ≡ 0 → ⊥) → Leads n t i
-leads_whole n i t h z e s =
-    let k : t * 2 ^ i ≡ n = omega (arith, ap (λ v. v * 2 ^ i) e, shr_split n i, no_rest n i z) in
-    record { positive = omega (arith, shr_le n i); covers = omega arith; near = omega arith; short = omega (arith, h.below) }
-
-pub leads_past : (n i t : ℕ) → Past32 n i → (i ≡ 0 → ⊥) → t ≡ n / 2 ^ i + 1 → (n / 2 ^ i ≡ 0 → ⊥) → Leads n t i
-leads_past n i t h z e s =
-    let k : t * 2 ^ i ≡ n / 2 ^ i * 2 ^ i + 2 ^ i = omega (arith, ap (λ v. v * 2 ^ i) e) in
-    let f : 2 ^ 31 * 2 ^ i ≤ n / 2 ^ i * 2 ^ i = mul-le-mul_right (2 ^ i) (h.full (omega arith)) in
-    record { positive = omega (arith, shr_le n i); covers = omega (arith, shr_split n i, mod_below n (2 ^ i) (pow_pos i)); near = omega (arith, shr_split n i); short = omega (arith, h.below) }

@@ -1,8 +1,10 @@
 -- A part of a quotient, from the leading bits of the divisor and of the dividend.
-use Rattle.std.proofs.Common.{◌≡◌, ℕ, ◌+◌, ◌*◌, ◌/◌, ◌^◌, ◌<◌, ◌≤◌, sym, ap, subst, ⊎_elim, mul-le-mul_right, mul-le-mul, mul-le-mul_left, div-mul-le_self, arith}
+use Rattle.std.proofs.Common.{◌≡◌, ℕ, ◌+◌, ◌*◌, ◌/◌, ◌^◌, ◌<◌, ◌≤◌, sym, ap, ◌∙◌, subst, ⊎_elim, mul-le-mul_right, mul-le-mul, mul-le-mul_left, div-mul-le_self, arith}
 use Rattle.std.proofs.lemmas.Nat.{le-div, div_below, mod_below, pow_pos, shr_split, div-add-mod'}
 use Rattle.std.proofs.lemmas.Bool.{cases_lt}
+use Rattle.wide.specs.declared.dividing.Dividing.{Dividing}
 use Rattle.wide.specs.Divided.{Part}
+use Rattle.wide.specs.Dividing.{SameDivision}
 
 -- the divisor d is above 0 and at most t with i zeros behind it; n without its last i bits is m
 module _ (n d t i m : ℕ) (p : 0 < d) (h : d ≤ t * 2 ^ i) (l : m ≡ n / 2 ^ i) where
@@ -35,13 +37,13 @@ module _ (n d t i m : ℕ) (p : 0 < d) (h : d ≤ t * 2 ^ i) (l : m ≡ n / 2 ^ 
       omega (arith, upper, mul-le-mul_right (2 ^ i) a, b, mul-le-mul_right d c)
 
 -- ---- with p more in the quotient, p d less is left
-module _ (d q r p : ℕ) (z : 0 < d) (t : p * d ≤ r) where
-  pub room : (b : ℕ) → q * d + r < b → q + p < b
-  room b k = omega (arith, t, mul-le-mul_left (q + p) z)
-
-  pub again : (m q₂ r₂ : ℕ) → m ≡ p * d → r₂ + m ≡ r → q₂ ≡ q + p → q₂ * d + r₂ ≡ q * d + r
-  again m q₂ r₂ e f g = omega (arith, ap (λ v. v * d) g)
+pub again : (d q r p m q₂ r₂ : ℕ) → m ≡ p * d → r₂ + m ≡ r → q₂ ≡ q + p → q₂ * d + r₂ ≡ q * d + r
+again d q r p m q₂ r₂ e f g = omega (arith, ap (λ v. v * d) g)
 
 -- where p is not 0, less is left
 pub less : (d r p r₂ : ℕ) → 0 < d → 0 < p → r₂ + p * d ≡ r → r₂ < r
 less d r p r₂ z s e = omega (arith, mul-le-mul {n₁ = 1} {m₁ = 1} s z)
+
+-- ---- a division goes on
+pub goes_on : (r s t : Dividing) → SameDivision r s → SameDivision s t → SameDivision r t
+goes_on r s t h k = record { dividend = k.dividend ∙ h.dividend; divisor = k.divisor ∙ h.divisor }

@@ -1,4 +1,5 @@
 pub mod Value
+pub mod Words
 pub mod Divided
-pub mod Dividend
 pub mod Leading
+pub mod Dividing

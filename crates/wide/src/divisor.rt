@@ -1,7 +1,6 @@
 // A number that can be divided by.
 ghost use Rattle.std.specs.Prelude.{◌≡◌, ◌+◌, ◌*◌, ◌^◌, ◌<◌, ◌≤◌, MatchOption};
 ghost use Rattle.wide.specs.Leading.{Past32};
-ghost use Rattle.wide.specs.Value.{value};
 
 use crate::wide::Wide;
 
@@ -12,9 +11,9 @@ pub struct Divisor {
     pub(crate) number: Wide,
     pub(crate) top: u64,
     pub(crate) shift: u32,
-    ghost positive: { 0 < value number },
-    ghost covers: { value number ≤ top * 2 ^ shift },
-    ghost near: { top * 2 ^ shift * 2 ^ 31 ≤ value number * (2 ^ 31 + 1) },
+    ghost positive: { 0 < number },
+    ghost covers: { number ≤ top * 2 ^ shift },
+    ghost near: { top * 2 ^ shift * 2 ^ 31 ≤ number * (2 ^ 31 + 1) },
     ghost short: { top ≤ 2 ^ 32 },
     ghost bound: { shift ≤ 96 },
 }
@@ -22,7 +21,7 @@ pub struct Divisor {
 impl Divisor {
     /// The number as a divisor, or `None` where it is 0.
     pub fn new(number: Wide) -> Option<Divisor>
-        ensures { MatchOption result (value number ≡ 0) (λ d. d.number ≡ number) }
+        ensures { MatchOption result (number ≡ 0) (λ d. d.number ≡ number) }
     {
         let shift = bits_past_32(number);
         let lead = number.without_last(shift).low;
@@ -37,7 +36,7 @@ impl Divisor {
 
 /// How many bits a number has past its first 32.
 fn bits_past_32(number: Wide) -> u32
-    ensures past { Past32 (value number) result }
+    ensures past { Past32 (number) result }
     ensures bound { result ≤ 96 }
 {
     if number.high > 0 {

@@ -2,6 +2,7 @@
 #![tactic(auto)]
 
 pub mod divide;
+mod dividing;
 pub mod divisor;
 pub mod order;
 mod shift;

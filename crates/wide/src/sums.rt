@@ -1,77 +1,84 @@
 // Sums, differences and products.
 ghost use Rattle.std.specs.Prelude.{◌≡◌, ◌+◌, ◌*◌, ◌^◌, ◌<◌, ◌≤◌, MatchOption};
-ghost use Rattle.wide.specs.Value.{value};
 
 use crate::wide::Wide;
+use std::ops::{Add, Mul, Sub};
 
 impl From<u64> for Wide {
-    ghost from_gives = { λ n w. value w ≡ n };
+    ghost from_gives = { λ n w. w ≡ n };
 
     fn from(word: u64) -> Wide {
         Wide { high: 0, low: word }
     }
 }
 
-/// A sum that fits 128 bits.
-pub(crate) fn sum(a: Wide, b: Wide) -> Wide
-    requires { value a + value b < 2 ^ 128 }
-    ensures { value result ≡ value a + value b }
-{
-    let (low, carry) = a.low.overflowing_add(b.low);
-    Wide {
-        high: a.high + b.high + u64::from(carry),
-        low,
-    }
-}
-
-/// A difference that is not below 0.
-pub(crate) fn difference(a: Wide, b: Wide) -> Wide
-    requires { value b ≤ value a }
-    ensures { value result + value b ≡ value a }
-{
-    let (low, borrow) = a.low.overflowing_sub(b.low);
-    Wide {
-        high: a.high - b.high - u64::from(borrow),
-        low,
-    }
-}
-
 impl Wide {
     /// The sum, or `None` where it does not fit 128 bits.
     pub fn checked_add(self, other: Wide) -> Option<Wide>
-        ensures { MatchOption result (2 ^ 128 ≤ value self + value other) (λ w. value w ≡ value self + value other) }
+        ensures { MatchOption result (2 ^ 128 ≤ self + other) (λ w. w ≡ self + other) }
     {
-        let (low, carry) = self.low.overflowing_add(other.low);
-        let high = self
-            .high
-            .checked_add(other.high)?
-            .checked_add(u64::from(carry))?;
-        Some(Wide { high, low })
+        let (low, carry) = self.low.carrying_add(other.low, false);
+        let (high, over) = self.high.carrying_add(other.high, carry);
+        if over { None } else { Some(Wide { high, low }) }
     }
 
     /// The difference, or `None` where it would be below 0.
     pub fn checked_sub(self, other: Wide) -> Option<Wide>
-        ensures { MatchOption result (value self < value other) (λ w. value w + value other ≡ value self) }
+        ensures { MatchOption result (self < other) (λ w. w + other ≡ self) }
     {
         if self < other {
             return None;
         }
-        Some(difference(self, other))
+        Some(self - other)
     }
 
-    /// The product of two words, by their halves.
+    /// The product of two words.
     pub fn product(a: u64, b: u64) -> Wide
-        ensures { value result ≡ a * b }
+        ensures { result ≡ a * b }
     {
-        let (a1, a0) = (a / 0x1_0000_0000, a % 0x1_0000_0000);
-        let (b1, b0) = (b / 0x1_0000_0000, b % 0x1_0000_0000);
-        let low = a0 * b0;
-        let left = a1 * b0 + low / 0x1_0000_0000;
-        let mid = a0 * b1 + left % 0x1_0000_0000;
-        let high = a1 * b1 + left / 0x1_0000_0000 + mid / 0x1_0000_0000;
+        let (low, high) = a.carrying_mul(b, 0);
+        Wide { high, low }
+    }
+}
+
+impl Add for Wide {
+    type Output = Wide;
+
+    ghost can_add = { λ a b. a + b < 2 ^ 128 };
+
+    ghost add_gives = { λ a b sum. sum ≡ a + b };
+
+    fn add(self, other: Wide) -> Wide {
+        self.checked_add(other).unwrap()
+    }
+}
+
+impl Sub for Wide {
+    type Output = Wide;
+
+    ghost can_sub = { λ a b. b ≤ a };
+
+    ghost sub_gives = { λ a b difference. difference + b ≡ a };
+
+    fn sub(self, other: Wide) -> Wide {
+        let (low, borrow) = self.low.borrowing_sub(other.low, false);
+        let (high, _) = self.high.borrowing_sub(other.high, borrow);
+        Wide { high, low }
+    }
+}
+
+impl Mul for Wide {
+    type Output = Wide;
+
+    ghost can_mul = { λ a b. a * b < 2 ^ 128 };
+
+    ghost mul_gives = { λ a b product. product ≡ a * b };
+
+    fn mul(self, other: Wide) -> Wide {
+        let low = Wide::product(self.low, other.low);
         Wide {
-            high,
-            low: mid % 0x1_0000_0000 * 0x1_0000_0000 + low % 0x1_0000_0000,
+            high: self.high * other.low + self.low * other.high + low.high,
+            low: low.low,
         }
     }
 }

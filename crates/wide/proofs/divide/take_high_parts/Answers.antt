@@ -1,6 +1,0 @@
-use Rattle.wide.proofs.Parts.{less}
-use Rattle.wide.proofs.divide.take_high_parts.Goals as goal
-
-pub loop-part-smaller : goal.loop-part-smaller
-loop-part-smaller c =
-    less _ _ _ _ c.args.divisor.positive c.in-Some.ensures.0.some c.take_off-so_far.ensures.less

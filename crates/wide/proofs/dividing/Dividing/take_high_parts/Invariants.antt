@@ -1,0 +1,8 @@
+use Rattle.wide.specs.Dividing.{SameDivision}
+use Rattle.wide.proofs.dividing.Dividing.take_high_parts.Given as goal
+
+abbrev pub invariant-loop-part : goal.invariant-loop-part
+invariant-loop-part l = SameDivision l.initial.self l.self
+
+abbrev pub decreases-loop-part : goal.decreases-loop-part
+decreases-loop-part l = l.self.remainder

@@ -1,0 +1,8 @@
+-- With each turn the remainder is below one divisor less.
+use Rattle.std.proofs.Common.{◌+◌, ◌*◌, ◌<◌}
+use Rattle.wide.specs.Dividing.{SameDivision}
+use Rattle.wide.proofs.dividing.Dividing.take_last_two.Given as goal
+
+abbrev pub invariant-loop-turn : goal.invariant-loop-turn
+invariant-loop-turn l =
+    SameDivision l.initial.self l.self × (l.self.remainder + l._turn * l.self.divisor.number < 3 * l.self.divisor.number)

@@ -1,0 +1,111 @@
+// A division on its way to the quotient.
+ghost use Rattle.std.specs.Prelude.{◌≡◌, ◌+◌, ◌*◌, ◌^◌, ◌<◌, ◌≤◌, ◌↔◌, IsTrue, MatchOption};
+
+use crate::divisor::Divisor;
+use crate::wide::Wide;
+
+/// The quotient so far, what is left of the number that is divided, and the divisor.
+#[derive(Clone, Copy)]
+pub(crate) struct Dividing {
+    pub(crate) quotient: Wide,
+    pub(crate) remainder: Wide,
+    pub(crate) divisor: Divisor,
+    ghost fits: { quotient * divisor.number + remainder < 2 ^ 128 },
+}
+
+impl Dividing {
+    ghost use Rattle.wide.specs.Divided.{Part};
+    ghost use Rattle.wide.specs.Dividing.{dividend, IsShort, SameDivision};
+
+    /// A number of which nothing was taken yet.
+    pub(crate) fn new(number: Wide, divisor: Divisor) -> Dividing
+        ensures dividend { dividend result ≡ number }
+        ensures divisor { result.divisor ≡ divisor }
+    {
+        Dividing {
+            quotient: Wide::from(0),
+            remainder: number,
+            divisor,
+        }
+    }
+
+    /// Takes the divisor off `part` times: the quotient grows by what the remainder loses.
+    fn take_off(&mut self, part: Wide)
+        requires { part * self.old.divisor.number ≤ self.old.remainder }
+        ensures same { SameDivision self.old self.new }
+        ensures less { self.new.remainder + part * self.old.divisor.number ≡ self.old.remainder }
+    {
+        self.quotient = self.quotient + part;
+        self.remainder = self.remainder - part * self.divisor.number;
+    }
+
+    /// A part of a long quotient, from the leading bits alone; none where the quotient is short.
+    fn high_part(&self) -> Option<Wide>
+        ensures { MatchOption result (IsShort self.now) (λ p. Part self.now.remainder self.now.divisor.number p × (IsShort self.now → ⊥)) }
+    {
+        let top = self.divisor.top;
+        let lead = self.remainder.without_last(self.divisor.shift);
+        if lead.high >= top {
+            return Some(Wide {
+                high: lead.high / top,
+                low: 0,
+            });
+        }
+        let middle = lead.high * 0x1_0000_0000 + lead.low / 0x1_0000_0000;
+        if middle >= top {
+            return Some(Wide::product(middle / top, 0x1_0000_0000));
+        }
+        None
+    }
+
+    /// Takes the divisor off until the quotient has become short.
+    pub(crate) fn take_high_parts(&mut self)
+        ensures same { SameDivision self.old self.new }
+        ensures short { IsShort self.new }
+    {
+        while let Some(part) = self.high_part() {
+            self.take_off(part);
+        }
+    }
+
+    /// A short quotient, or up to two less.
+    fn low_part(&self) -> u32
+        requires { IsShort self.now }
+        ensures fits { result * self.now.divisor.number ≤ self.now.remainder }
+        ensures near { self.now.remainder < (result + 3) * self.now.divisor.number }
+    {
+        let lead = self.remainder.without_last(self.divisor.shift);
+        (lead.low / self.divisor.top) as u32
+    }
+
+    /// Takes the divisor off a short quotient's times, or up to two less.
+    pub(crate) fn take_low_part(&mut self)
+        requires { IsShort self.old }
+        ensures same { SameDivision self.old self.new }
+        ensures near { self.new.remainder < 3 * self.new.divisor.number }
+    {
+        let part = self.low_part();
+        self.take_off(Wide::from(u64::from(part)));
+    }
+
+    /// Whether the divisor goes no more into what is left.
+    fn is_done(&self) -> bool
+        ensures { IsTrue result ↔ (self.now.remainder < self.now.divisor.number) }
+    {
+        self.remainder < self.divisor.number
+    }
+
+    /// Takes the divisor off twice at most.
+    pub(crate) fn take_last_two(&mut self)
+        requires { self.old.remainder < 3 * self.old.divisor.number }
+        ensures same { SameDivision self.old self.new }
+        ensures small { self.new.remainder < self.new.divisor.number }
+    {
+        for _turn in 0..2u32 {
+            if self.is_done() {
+                return;
+            }
+            self.take_off(Wide::from(1));
+        }
+    }
+}
