@@ -6,4 +6,4 @@ use Rattle.sky.specs.Directions.{DirectionOf}
 
 pub made_sound : (v : Vector) (r : Option Direction) → DirectionOf v r → is_some r ≡ true → Sound v
 made_sound v None h e = absurd (subst T (sym e) tt)
-made_sound v (Some d) h e = subst Sound h d.sound
+made_sound v (Some d) h e = h.1

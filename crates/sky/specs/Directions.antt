@@ -1,15 +1,11 @@
--- Directions, and those of a list of vectors. Assumes nothing: these are definitions.
+-- Directions of vectors, and numbers of pairs in a list of vectors. Assumes nothing: these are definitions.
 use Rattle.std.specs.Prelude.{◌≡◌, ℕ, List, Option, MatchOption}
-use Rattle.sky.specs.Vectors.{Vector, vec, Sound, star_at, pair_number}
+use Rattle.sky.specs.Vectors.{Vector, Sound, star_at, pair_number}
 use Rattle.sky.specs.declared.direction.Direction.{Direction}
-
--- the vector of a direction
-abbrev pub vector : Direction → Vector
-vector d = vec d.x d.y d.z
 
 -- the direction of a vector, or none where the vector is not sound
 abbrev pub DirectionOf : Vector → Option Direction → Type 0
-DirectionOf v r = MatchOption r (Sound v → ⊥) (λ d. vector d ≡ v)
+DirectionOf v r = MatchOption r (Sound v → ⊥) (λ d. (d ≡ v) × Sound v)
 
 -- the number of the pair of stars i and j, or none where one of them is no direction
 abbrev pub NumberOf : List Vector → ℕ → ℕ → Option ℕ → Type 0

@@ -1,36 +1,24 @@
 // The square of the length of a cross product.
-ghost use Rattle.std.specs.Prelude.{◌≡◌, ◌+◌, ◌*◌, ◌^◌, ◌<◌, ◌≤◌, ◌-ℤ◌, ◌*ℤ◌, unsigned_abs};
-ghost use Rattle.wide.specs.Value.{value};
-ghost use Rattle.sky.specs.Directions.{vector};
-ghost use Rattle.sky.specs.Squares.{squared};
-ghost use Rattle.sky.specs.Vectors.{InRange, length², cross};
+ghost use Rattle.std.specs.Prelude.{◌≡◌, ◌+◌, ◌*◌, ◌^◌, ◌<◌, ◌-ℤ◌, ◌*ℤ◌, unsigned_abs};
+ghost use Rattle.sky.specs.Vectors.{length², cross};
 
+use crate::coordinate::Coordinate;
 use crate::direction::Direction;
 use crate::square::Square;
 use wide::Wide;
 
-/// The product of two coordinates.
-fn times(a: i32, b: i32) -> i64
-    requires { InRange a × InRange b }
-    ensures value { result ≡ a *ℤ b }
-    ensures bound { unsigned_abs result ≤ 65535 * 65535 }
-{
-    a as i64 * b as i64
-}
-
 /// What a b less c d is in amount: a component of a cross product.
-fn component(a: i32, b: i32, c: i32, d: i32) -> u64
-    requires { InRange a × InRange b × InRange c × InRange d }
+fn component(a: Coordinate, b: Coordinate, c: Coordinate, d: Coordinate) -> u64
     ensures amount { result ≡ unsigned_abs (a *ℤ b -ℤ c *ℤ d) }
     ensures bound { result < 2 ^ 34 }
 {
-    (times(a, b) - times(c, d)).unsigned_abs()
+    (a * b - c * d).unsigned_abs()
 }
 
 /// The square of a component, by its digits of 17 bits.
 fn square_of(component: u64) -> Square
     requires { component < 2 ^ 34 }
-    ensures { squared result ≡ component * component }
+    ensures { result ≡ component * component }
 {
     let (c1, c0) = (component / 0x2_0000, component % 0x2_0000);
     Square {
@@ -42,21 +30,17 @@ fn square_of(component: u64) -> Square
 
 /// 2^24 times the sum of three squares. No sum but the last needs two words.
 fn scaled_sum(x: Square, y: Square, z: Square) -> Wide
-    ensures { value result ≡ 16777216 * (squared x + (squared y + squared z)) }
+    ensures { result ≡ 16777216 * (x + (y + z)) }
 {
     let high = x.high + y.high + z.high;
     let mixed = x.mixed + y.mixed + z.mixed;
     let low = x.low + y.low + z.low;
-    let front = Wide::product(high, 0x400_0000_0000_0000);
-    let Some(sum) = front.checked_add(Wide::product(mixed * 0x4_0000 + low, 0x100_0000)) else {
-        unreachable();
-    };
-    sum
+    Wide::product(high, 0x400_0000_0000_0000) + Wide::product(mixed * 0x4_0000 + low, 0x100_0000)
 }
 
 /// 2^24 times the square of the length of two directions' cross product; below 2^92.
 pub(crate) fn scaled_cross(d: Direction, e: Direction) -> Wide
-    ensures { value result ≡ 16777216 * length² (cross (vector d) (vector e)) }
+    ensures { result ≡ 16777216 * length² (cross d e) }
 {
     scaled_sum(
         square_of(component(d.y, e.z, d.z, e.y)),

@@ -1,6 +1,7 @@
 // Stars, spots and directions, and the number of a pair of directions.
 #![tactic(auto)]
 
+mod coordinate;
 mod cross;
 pub mod direction;
 pub mod index;

@@ -6,7 +6,7 @@ ghost use Rattle.sky.specs.Vectors.{Vector, star_at};
 
 use crate::direction::Direction;
 use crate::index::Star;
-use crate::lent::direction_at;
+use crate::lent::{count, direction_at};
 
 /// The stars of a catalogue, by their numbers.
 pub trait Stars {
@@ -23,14 +23,14 @@ pub trait Stars {
 }
 
 /// Stars that are lent as numbers, three for each.
-#[derive(Clone, Copy)]
+#[derive(Clone, Copy, Debug)]
 pub struct LentStars<'a>(pub &'a [u32]);
 
 impl Stars for LentStars<'_> {
     ghost directions = { λ s. vectors s.0.now };
 
     fn count(&self) -> usize {
-        self.0.len() / 3
+        count(self.0)
     }
 
     fn direction(&self, star: Star) -> Option<Direction> {

@@ -1,0 +1,71 @@
+// A coordinate of a direction.
+ghost use Rattle.std.specs.Prelude.{◌≡◌, ◌*◌, ◌≤◌, ◌*ℤ◌, ◌↔◌, pos, unsigned_abs, IsTrue, MatchOption};
+ghost use Rattle.sky.specs.Lent.{coordinate};
+ghost use Rattle.sky.specs.Vectors.{InRange, square};
+
+use std::marker::Model;
+use std::ops::Mul;
+
+/// What is added to a coordinate when it is lent.
+pub const ORIGIN: u32 = 65_536;
+
+/// The largest number that is lent for a coordinate.
+const LARGEST: u32 = 131_071;
+
+/// A whole number from -65,535 to 65,535.
+#[derive(Clone, Copy)]
+pub(crate) struct Coordinate {
+    value: i32,
+}
+
+impl Model for Coordinate {
+    ghost use Rattle.std.specs.Prelude.{ℤ};
+    ghost use Rattle.sky.specs.Vectors.{InRange};
+
+    ghost Value = { ℤ };
+
+    ghost view = { λ c. c.value };
+
+    ghost invariant = { λ c. InRange c.value };
+
+    ghost inverse = { λ a. record { value = a } };
+}
+
+impl Coordinate {
+    /// The coordinate that a number is lent for, or `None` where it is out of range.
+    pub(crate) fn from_lent(n: u32) -> Option<Coordinate>
+        ensures { MatchOption result (InRange (coordinate n) → ⊥) (λ c. (c ≡ coordinate n) × InRange c) }
+    {
+        if n < 1 || n > LARGEST {
+            return None;
+        }
+        Some(Coordinate {
+            value: n as i32 - ORIGIN as i32,
+        })
+    }
+
+    pub(crate) fn is_zero(self) -> bool
+        ensures { IsTrue result ↔ (self ≡ pos 0) }
+    {
+        self.value == 0
+    }
+
+    #[tactic(auto, unfolding(crate::specs::Vectors::square))]
+    pub(crate) fn square(self) -> u64
+        ensures value { result ≡ square self }
+        ensures bound { result ≤ 65535 * 65535 }
+    {
+        let amount = u64::from(self.value.unsigned_abs());
+        amount * amount
+    }
+}
+
+impl Mul for Coordinate {
+    type Output = i64;
+
+    ghost mul_gives = { λ a b product. (product ≡ a *ℤ b) × (unsigned_abs product ≤ 65535 * 65535) };
+
+    fn mul(self, other: Coordinate) -> i64 {
+        i64::from(self.value) * i64::from(other.value)
+    }
+}
