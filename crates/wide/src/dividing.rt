@@ -44,7 +44,7 @@ impl Dividing {
         ensures { MatchOption result (IsShort self.now) (λ p. Part self.now.remainder self.now.divisor.number p × (IsShort self.now → ⊥)) }
     {
         let top = self.divisor.top;
-        let lead = self.remainder.without_last(self.divisor.shift);
+        let lead = self.remainder >> self.divisor.shift;
         if lead.high >= top {
             return Some(Wide {
                 high: lead.high / top,
@@ -74,7 +74,7 @@ impl Dividing {
         ensures fits { result * self.now.divisor.number ≤ self.now.remainder }
         ensures near { self.now.remainder < (result + 3) * self.now.divisor.number }
     {
-        let lead = self.remainder.without_last(self.divisor.shift);
+        let lead = self.remainder >> self.divisor.shift;
         (lead.low / self.divisor.top) as u32
     }
 
