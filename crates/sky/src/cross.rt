@@ -35,7 +35,9 @@ fn scaled_sum(x: Square, y: Square, z: Square) -> Wide
     let high = x.high + y.high + z.high;
     let mixed = x.mixed + y.mixed + z.mixed;
     let low = x.low + y.low + z.low;
-    Wide::product(high, 0x400_0000_0000_0000) + Wide::product(mixed * 0x4_0000 + low, 0x100_0000)
+    let front = Wide::product(high, 0x400_0000_0000_0000);
+    let rest = Wide::product(mixed * 0x4_0000 + low, 0x100_0000);
+    front.checked_add(rest).unwrap()
 }
 
 /// 2^24 times the square of the length of two directions' cross product; below 2^92.

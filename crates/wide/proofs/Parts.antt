@@ -1,5 +1,5 @@
 -- A part of a quotient, from the leading bits of the divisor and of the dividend.
-use Rattle.std.proofs.Common.{◌≡◌, ℕ, ◌+◌, ◌*◌, ◌/◌, ◌^◌, ◌<◌, ◌≤◌, sym, ap, ◌∙◌, subst, ⊎_elim, mul-le-mul_right, mul-le-mul, mul-le-mul_left, div-mul-le_self, arith}
+use Rattle.std.proofs.Common.{◌≡◌, ℕ, ◌+◌, ◌*◌, ◌/◌, ◌^◌, ◌<◌, ◌≤◌, sym, ap, ◌∙◌, subst, ⊎_elim, mul-le-mul_right, mul-le-mul_left, div-mul-le_self, arith}
 use Rattle.std.proofs.lemmas.Nat.{le-div, div_below, mod_below, pow_pos, shr_split, div-add-mod'}
 use Rattle.std.proofs.lemmas.Bool.{cases_lt}
 use Rattle.wide.specs.declared.dividing.Dividing.{Dividing}
@@ -39,10 +39,6 @@ module _ (n d t i m : ℕ) (p : 0 < d) (h : d ≤ t * 2 ^ i) (l : m ≡ n / 2 ^ 
 -- ---- with p more in the quotient, p d less is left
 pub again : (d q r p m q₂ r₂ : ℕ) → m ≡ p * d → r₂ + m ≡ r → q₂ ≡ q + p → q₂ * d + r₂ ≡ q * d + r
 again d q r p m q₂ r₂ e f g = omega (arith, ap (λ v. v * d) g)
-
--- where p is not 0, less is left
-pub less : (d r p r₂ : ℕ) → 0 < d → 0 < p → r₂ + p * d ≡ r → r₂ < r
-less d r p r₂ z s e = omega (arith, mul-le-mul {n₁ = 1} {m₁ = 1} s z)
 
 -- ---- a division goes on
 pub goes_on : (r s t : Dividing) → SameDivision r s → SameDivision s t → SameDivision r t

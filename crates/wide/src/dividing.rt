@@ -35,8 +35,9 @@ impl Dividing {
         ensures same { SameDivision self.old self.new }
         ensures less { self.new.remainder + part * self.old.divisor.number ≡ self.old.remainder }
     {
-        self.quotient = self.quotient + part;
-        self.remainder = self.remainder - part * self.divisor.number;
+        let taken = part.times(self.divisor.number);
+        self.quotient = self.quotient.checked_add(part).unwrap();
+        self.remainder = self.remainder.checked_sub(taken).unwrap();
     }
 
     /// A part of a long quotient, from the leading bits alone; none where the quotient is short.
@@ -44,7 +45,7 @@ impl Dividing {
         ensures { MatchOption result (IsShort self.now) (λ p. Part self.now.remainder self.now.divisor.number p × (IsShort self.now → ⊥)) }
     {
         let top = self.divisor.top;
-        let lead = self.remainder >> self.divisor.shift;
+        let lead = self.remainder.without_last(self.divisor.shift);
         if lead.high >= top {
             return Some(Wide {
                 high: lead.high / top,
@@ -58,7 +59,7 @@ impl Dividing {
         None
     }
 
-    /// Takes the divisor off until the quotient has become short.
+    /// Takes the divisor off until the quotient has become short: below 2^32.
     pub(crate) fn take_high_parts(&mut self)
         ensures same { SameDivision self.old self.new }
         ensures short { IsShort self.new }
@@ -74,7 +75,7 @@ impl Dividing {
         ensures fits { result * self.now.divisor.number ≤ self.now.remainder }
         ensures near { self.now.remainder < (result + 3) * self.now.divisor.number }
     {
-        let lead = self.remainder >> self.divisor.shift;
+        let lead = self.remainder.without_last(self.divisor.shift);
         (lead.low / self.divisor.top) as u32
     }
 

@@ -24,7 +24,7 @@ impl Divisor {
         ensures { MatchOption result (number ≡ 0) (λ d. d.number ≡ number) }
     {
         let shift = bits_past_32(number);
-        let lead = (number >> shift).low;
+        let lead = number.without_last(shift).low;
         if lead == 0 {
             return None;
         }

@@ -2,17 +2,13 @@
 ghost use Rattle.std.specs.Prelude.{◌≡◌, ◌/◌, ◌^◌, ◌<◌};
 
 use crate::wide::Wide;
-use std::ops::Shr;
 
-impl Shr<u32> for Wide {
-    type Output = Wide;
-
-    ghost can_shr = { λ _ by. by < 128 };
-
-    // The quotient by 2^`by`, rounded down.
-    ghost shr_gives = { λ n by shifted. shifted ≡ n / 2 ^ by };
-
-    fn shr(self, by: u32) -> Wide {
+impl Wide {
+    /// The number without its last `by` bits: its quotient by 2^`by`, rounded down.
+    pub(crate) fn without_last(self, by: u32) -> Wide
+        requires { by < 128 }
+        ensures { result ≡ self / 2 ^ by }
+    {
         if by == 0 {
             return self;
         }

@@ -2,7 +2,6 @@
 ghost use Rattle.std.specs.Prelude.{◌≡◌, ◌+◌, ◌*◌, ◌^◌, ◌<◌, ◌≤◌, MatchOption};
 
 use crate::wide::Wide;
-use std::ops::{Add, Mul, Sub};
 
 impl From<u64> for Wide {
     ghost from_gives = { λ n w. w ≡ n };
@@ -26,10 +25,13 @@ impl Wide {
     pub fn checked_sub(self, other: Wide) -> Option<Wide>
         ensures { MatchOption result (self < other) (λ w. w + other ≡ self) }
     {
-        if self < other {
-            return None;
+        let (low, borrow) = self.low.borrowing_sub(other.low, false);
+        let (high, below) = self.high.borrowing_sub(other.high, borrow);
+        if below {
+            None
+        } else {
+            Some(Wide { high, low })
         }
-        Some(self - other)
     }
 
     /// The product of two words.
@@ -39,42 +41,12 @@ impl Wide {
         let (low, high) = a.carrying_mul(b, 0);
         Wide { high, low }
     }
-}
 
-impl Add for Wide {
-    type Output = Wide;
-
-    ghost can_add = { λ a b. a + b < 2 ^ 128 };
-
-    ghost add_gives = { λ a b sum. sum ≡ a + b };
-
-    fn add(self, other: Wide) -> Wide {
-        self.checked_add(other).unwrap()
-    }
-}
-
-impl Sub for Wide {
-    type Output = Wide;
-
-    ghost can_sub = { λ a b. b ≤ a };
-
-    ghost sub_gives = { λ a b difference. difference + b ≡ a };
-
-    fn sub(self, other: Wide) -> Wide {
-        let (low, borrow) = self.low.borrowing_sub(other.low, false);
-        let (high, _) = self.high.borrowing_sub(other.high, borrow);
-        Wide { high, low }
-    }
-}
-
-impl Mul for Wide {
-    type Output = Wide;
-
-    ghost can_mul = { λ a b. a * b < 2 ^ 128 };
-
-    ghost mul_gives = { λ a b product. product ≡ a * b };
-
-    fn mul(self, other: Wide) -> Wide {
+    /// A product that fits 128 bits.
+    pub(crate) fn times(self, other: Wide) -> Wide
+        requires { self * other < 2 ^ 128 }
+        ensures { result ≡ self * other }
+    {
         let low = Wide::product(self.low, other.low);
         Wide {
             high: self.high * other.low + self.low * other.high + low.high,

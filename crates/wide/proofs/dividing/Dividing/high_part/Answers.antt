@@ -5,9 +5,9 @@ use Rattle.wide.proofs.dividing.Dividing.high_part.Goals as goal
 pub returns-then-lead-top : goal.returns-then-lead-top
 returns-then-lead-top c =
     let d = c.args.self.now.divisor in
-    (part _ _ _ _ _ d.positive d.covers (c.lead.view_is ∙ c.shr-lead.ensures) c.lead.inside.high (2 ^ 64) _ (omega arith) c.if-lead-top.true (omega arith) (omega arith), λ s. omega (arith, c.lead.view_is, c.shr-lead.ensures))
+    (part _ _ _ _ _ d.positive d.covers (c.lead.view_is ∙ c.without_last-lead.ensures) c.lead.inside.high (2 ^ 64) _ (omega arith) c.if-lead-top.true (omega arith) (omega arith), λ s. omega (arith, c.lead.view_is, c.without_last-lead.ensures))
 
 pub returns-then-middle-top : goal.returns-then-middle-top
 returns-then-middle-top c =
     let d = c.args.self.now.divisor in
-    (part _ _ _ _ _ d.positive d.covers (c.lead.view_is ∙ c.shr-lead.ensures) (c.lead.inside.high * 4294967296 + c.lead.inside.low / 4294967296) (2 ^ 32) _ (omega arith) c.if-middle-top.true (omega arith) c.product.ensures, λ s. omega (arith, c.lead.view_is, c.shr-lead.ensures))
+    (part _ _ _ _ _ d.positive d.covers (c.lead.view_is ∙ c.without_last-lead.ensures) (c.lead.inside.high * 4294967296 + c.lead.inside.low / 4294967296) (2 ^ 32) _ (omega arith) c.if-middle-top.true (omega arith) c.product.ensures, λ s. omega (arith, c.lead.view_is, c.without_last-lead.ensures))

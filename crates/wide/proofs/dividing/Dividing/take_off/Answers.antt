@@ -4,8 +4,12 @@ use Rattle.wide.proofs.dividing.Dividing.take_off.Goals as goal
 
 pub invariant_of-self : goal.invariant_of-self
 invariant_of-self c =
-    record { fits = omega (arith, c.args.self.now.fits, again _ _ _ _ _ _ _ c.mul.ensures c.sub-self.ensures c.add-self.ensures) }
+    let more = rw c.unwrap-self.ensures at c.checked_add.ensures in
+    let less = rw c.unwrap-self-2.ensures at c.checked_sub.ensures in
+    record { fits = omega (arith, c.args.self.now.fits, again _ _ _ _ _ _ _ c.times-taken.ensures less more) }
 
 pub returns-clause-same : goal.returns-clause-same
 returns-clause-same c =
-    record { dividend = again _ _ _ _ _ _ _ c.mul.ensures c.sub-self.ensures c.add-self.ensures; divisor = refl }
+    let more = rw c.unwrap-self.ensures at c.checked_add.ensures in
+    let less = rw c.unwrap-self-2.ensures at c.checked_sub.ensures in
+    record { dividend = again _ _ _ _ _ _ _ c.times-taken.ensures less more; divisor = refl }

@@ -1,7 +1,7 @@
 use Rattle.std.proofs.Common.{◌≡◌, ℕ, ◌+◌, ◌-◌, ◌*◌, ◌/◌, ◌^◌, ◌<◌, sym, ap, ◌∙◌, arith}
 use Rattle.std.proofs.lemmas.Nat.{pow_pos, pow-add}
 use Rattle.wide.proofs.Bits.{low_digit, two_digits, past_a_word}
-use Rattle.wide.proofs.shift.WideShrU32.shr.Goals as goal
+use Rattle.wide.proofs.wide.Wide.without_last.Goals as goal
 
 -- fewer bits than a word has, and the rest of the word
 a_word : (i : ℕ) → i < 64 → 2 ^ i * 2 ^ (64 - i) ≡ 2 ^ 64

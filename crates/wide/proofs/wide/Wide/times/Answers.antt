@@ -1,6 +1,6 @@
 use Rattle.std.proofs.Common.{arith}
 use Rattle.wide.proofs.Products.{by_words, crosses_fit}
-use Rattle.wide.proofs.sums.WideMul.mul.Goals as goal
+use Rattle.wide.proofs.wide.Wide.times.Goals as goal
 
 pub overflow_mul-result : goal.overflow_mul-result
 overflow_mul-result c = omega (arith, crosses_fit _ _ _ _ _ _ c.self.view_is c.other.view_is c.requires)
