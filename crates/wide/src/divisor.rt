@@ -36,7 +36,7 @@ impl Divisor {
 
 /// How many bits a number has past its first 32.
 fn bits_past_32(number: Wide) -> u32
-    ensures past { Past32 (number) result }
+    ensures past { Past32 number result }
     ensures bound { result ≤ 96 }
 {
     if number.high > 0 {
