@@ -23,12 +23,7 @@ mod tests {
 
     // Whether the program can read none of the lines of a text.
     fn reads_none<P: Program>(program: &mut P, text: &str) -> bool {
-        for line in text.lines() {
-            if program.read_line(line).is_ok() {
-                return false;
-            }
-        }
-        true
+        text.lines().all(|line| program.read_line(line).is_err())
     }
 
     #[test]
@@ -39,11 +34,11 @@ mod tests {
         let Ok(Some(answer)) = program.read_line("name") else {
             return Err(Fail::new("no answer"));
         };
-        assert_eq!(rt; answer, Answer::Refused(Refusal::BadSpot { spot: Spot(0) }));
+        assert_eq!(rt; answer, Answer(Err(Refusal::BadSpot { spot: Spot(0) })));
         let Ok(Some(answer)) = program.read_line("name") else {
             return Err(Fail::new("no answer"));
         };
-        assert_eq!(rt; answer, Answer::Taken);
+        assert_eq!(rt; answer, Answer(Ok(())));
         Ok(())
     }
 
