@@ -10,12 +10,7 @@ impl fmt::Display for Answer {
     fn fmt<W: fmt::Write>(&self, f: &mut fmt::Formatter<W>) -> fmt::Result {
         match self.0 {
             Ok(()) => write!(f, "taken"),
-            Err(refusal) => write!(
-                f,
-                "refused {} at {}",
-                refusal.number(),
-                refusal.place()
-            ),
+            Err(refusal) => write!(f, "refused {} at {}", refusal.number(), refusal.place()),
         }
     }
 }

@@ -71,10 +71,16 @@ impl Program for CheckCatalogue {
             return Ok(None);
         };
         match line.word {
-            "star" => self.stars.add(line.rest("'star X Y Z' with whole numbers"))?,
-            "error" => self.error = line.rest("'error E' with one whole number from 0 on").number()?,
+            "star" => self
+                .stars
+                .add(line.rest("'star X Y Z' with whole numbers"))?,
+            "error" => self.error = line
+                .rest("'error E' with one whole number from 0 on")
+                .number()?,
             "apart" => {
-                let size = line.rest("'apart K' with one whole number from 0 on").number()?;
+                let size = line
+                    .rest("'apart K' with one whole number from 0 on")
+                    .number()?;
                 return Ok(Some(self.answer(size)));
             }
             word => return Err(Expected("star, error or apart").but_found(Some(word))),

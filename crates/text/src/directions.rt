@@ -1,5 +1,5 @@
 // A list of directions that grows line by line, as it is lent.
-ghost use Rattle.std.specs.Prelude.{◌≡◌, ◌≢◌, ◌%◌, [], length, OnErr};
+ghost use Rattle.std.specs.Prelude.{◌≡◌, ◌≢◌, ◌+◌, ◌%◌, ◌⊎◌, ℕ, List, [], ◌++◌, length, OnOk, OnErr};
 
 use crate::fault::Fault;
 use crate::line::Rest;
@@ -33,12 +33,14 @@ impl Directions {
         self.numbers.clear();
     }
 
-    /// Adds the direction whose numbers a line lists.
-    pub(crate) fn add<'w>(&mut self, line: Rest<'w>) -> Result<(), Fault<'w>>
+    /// Adds the direction whose numbers the rest of a line lists.
+    pub(crate) fn add<'w>(&mut self, rest: Rest<'w>) -> Result<(), Fault<'w>>
         ensures stays { length self.old.numbers.items % 3 ≢ 0 → self.new.numbers.items ≡ self.old.numbers.items }
+        ensures begins { (more : List ℕ) × (self.new.numbers.items ≡ self.old.numbers.items ++ more) }
+        ensures grows { OnOk result (length self.old.numbers.items % 3 ≡ 0 → (length self.new.numbers.items ≡ length self.old.numbers.items + 3) ⊎ (length self.new.numbers.items ≡ length self.old.numbers.items + 1)) }
         ensures err { OnErr result (self.new.numbers.items ≡ self.old.numbers.items) }
     {
-        let mut numbers = line.coordinates(*self.numbers.allocator())?;
+        let mut numbers = rest.coordinates(*self.numbers.allocator())?;
         // A line before had not three numbers, and no later line makes up for it.
         if self.numbers.len() % 3 != 0 {
             return Ok(());

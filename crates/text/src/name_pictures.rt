@@ -89,10 +89,18 @@ impl Program for NamePictures {
             return Ok(None);
         };
         match line.word {
-            "star" => self.stars.add(line.rest("'star X Y Z' with whole numbers"))?,
-            "spot" => self.spots.add(line.rest("'spot X Y Z' with whole numbers"))?,
-            "error" => self.error = line.rest("'error E' with one whole number from 0 on").number()?,
-            "none" => self.none = line.rest("'none Q' with one whole number from 0 on").number()?,
+            "star" => self
+                .stars
+                .add(line.rest("'star X Y Z' with whole numbers"))?,
+            "spot" => self
+                .spots
+                .add(line.rest("'spot X Y Z' with whole numbers"))?,
+            "error" => self.error = line
+                .rest("'error E' with one whole number from 0 on")
+                .number()?,
+            "none" => self.none = line
+                .rest("'none Q' with one whole number from 0 on")
+                .number()?,
             "name" => {
                 line.rest("'name' alone").end()?;
                 return Ok(Some(self.answer_and_clear()));
