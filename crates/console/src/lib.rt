@@ -38,6 +38,7 @@ struct Console<'a, P> {
 }
 
 impl<P: Program> Console<'_, P> {
+    /// Runs the program as its arguments say.
     fn run(&mut self) -> Result<(), Stopped> {
         let name = self.program.name();
         let mut args = env::args(self.rt).map_err(|error| {

@@ -4,8 +4,9 @@ ghost use Rattle.text.specs.Standing.{group_conditions, NoCatalogue};
 
 use crate::answer::Answer;
 use crate::directions::Directions;
+use crate::expected::Expected;
 use crate::fault::Fault;
-use crate::line::{Expected, Line};
+use crate::line::Line;
 use crate::program::Program;
 use requests::ApartRequest;
 use requests::limits::LARGEST_GROUP;
@@ -71,16 +72,10 @@ impl Program for CheckCatalogue {
             return Ok(None);
         };
         match line.word {
-            "star" => self
-                .stars
-                .add(line.rest("'star X Y Z' with whole numbers"))?,
-            "error" => self.error = line
-                .rest("'error E' with one whole number from 0 on")
-                .number()?,
+            "star" => self.stars.add(line.rest(Expected::STAR))?,
+            "error" => self.error = line.rest(Expected::ERROR).number()?,
             "apart" => {
-                let size = line
-                    .rest("'apart K' with one whole number from 0 on")
-                    .number()?;
+                let size = line.rest(Expected::APART).number()?;
                 return Ok(Some(self.answer(size)));
             }
             word => return Err(Expected("star, error or apart").but_found(Some(word))),

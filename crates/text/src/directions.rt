@@ -1,5 +1,6 @@
 // A list of directions that grows line by line, as it is lent.
-ghost use Rattle.std.specs.Prelude.{◌≡◌, ◌≢◌, ◌+◌, ◌%◌, ◌⊎◌, ℕ, List, [], ◌++◌, length, OnOk, OnErr};
+ghost use Rattle.std.specs.Prelude.{◌≡◌, [], OnOk, OnErr};
+ghost use Rattle.text.specs.Standing.{numbers, LineMore};
 
 use crate::fault::Fault;
 use crate::line::Rest;
@@ -35,10 +36,8 @@ impl Directions {
 
     /// Adds the direction whose numbers the rest of a line lists.
     pub(crate) fn add<'w>(&mut self, rest: Rest<'w>) -> Result<(), Fault<'w>>
-        ensures stays { length self.old.numbers.items % 3 ≢ 0 → self.new.numbers.items ≡ self.old.numbers.items }
-        ensures begins { (more : List ℕ) × (self.new.numbers.items ≡ self.old.numbers.items ++ more) }
-        ensures grows { OnOk result (length self.old.numbers.items % 3 ≡ 0 → (length self.new.numbers.items ≡ length self.old.numbers.items + 3) ⊎ (length self.new.numbers.items ≡ length self.old.numbers.items + 1)) }
-        ensures err { OnErr result (self.new.numbers.items ≡ self.old.numbers.items) }
+        ensures ok { OnOk result (LineMore self.old self.new) }
+        ensures err { OnErr result (numbers self.new ≡ numbers self.old) }
     {
         let mut numbers = rest.coordinates(*self.numbers.allocator())?;
         // A line before had not three numbers, and no later line makes up for it.
@@ -46,6 +45,7 @@ impl Directions {
             return Ok(());
         }
         if numbers.len() != 3 {
+            // One number over; which one does not matter.
             numbers.resize(1, 0)?;
         }
         self.numbers.extend_from_slice(numbers.as_slice())?;

@@ -1,4 +1,5 @@
 // The words of a line.
+use crate::expected::Expected;
 use crate::fault::Fault;
 use crate::number::{coordinate, whole};
 use std::alloc::Global;
@@ -11,16 +12,12 @@ pub(crate) struct Line<'w> {
     words: SplitWhitespace<'w>,
 }
 
-/// The words behind the first one of a line, and what the line should be.
+/// What is left of a line behind its first word, and what should stand in the line.
 #[derive(Drop)]
 pub(crate) struct Rest<'w> {
     words: SplitWhitespace<'w>,
     expected: Expected,
 }
-
-/// What should stand in a line, for a message where it does not.
-#[derive(Clone, Copy)]
-pub(crate) struct Expected(pub(crate) &'static str);
 
 impl<'w> Line<'w> {
     /// The line, or `None` where it is empty or a comment.
@@ -31,10 +28,10 @@ impl<'w> Line<'w> {
     }
 
     /// What stands behind the first word.
-    pub(crate) fn rest(self, expected: &'static str) -> Rest<'w> {
+    pub(crate) fn rest(self, expected: Expected) -> Rest<'w> {
         Rest {
             words: self.words,
-            expected: Expected(expected),
+            expected,
         }
     }
 }
@@ -62,15 +59,5 @@ impl<'w> Rest<'w> {
         words
             .map(|word| coordinate(word).ok_or(expected.but_found(Some(word))))
             .try_collect(heap)
-    }
-}
-
-impl Expected {
-    /// The fault that a word, or the end of the line, stands there.
-    pub(crate) fn but_found(self, word: Option<&str>) -> Fault<'_> {
-        Fault::Unexpected {
-            found: word,
-            expected: self.0,
-        }
     }
 }

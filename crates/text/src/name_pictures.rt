@@ -4,8 +4,9 @@ ghost use Rattle.text.specs.Standing.{picture_conditions, NextPicture, NoPicture
 
 use crate::answer::Answer;
 use crate::directions::Directions;
+use crate::expected::Expected;
 use crate::fault::Fault;
-use crate::line::{Expected, Line};
+use crate::line::Line;
 use crate::program::Program;
 use requests::NameRequest;
 use std::alloc::Global;
@@ -89,20 +90,12 @@ impl Program for NamePictures {
             return Ok(None);
         };
         match line.word {
-            "star" => self
-                .stars
-                .add(line.rest("'star X Y Z' with whole numbers"))?,
-            "spot" => self
-                .spots
-                .add(line.rest("'spot X Y Z' with whole numbers"))?,
-            "error" => self.error = line
-                .rest("'error E' with one whole number from 0 on")
-                .number()?,
-            "none" => self.none = line
-                .rest("'none Q' with one whole number from 0 on")
-                .number()?,
+            "star" => self.stars.add(line.rest(Expected::STAR))?,
+            "spot" => self.spots.add(line.rest(Expected::SPOT))?,
+            "error" => self.error = line.rest(Expected::ERROR).number()?,
+            "none" => self.none = line.rest(Expected::NONE).number()?,
             "name" => {
-                line.rest("'name' alone").end()?;
+                line.rest(Expected::NAME).end()?;
                 return Ok(Some(self.answer_and_clear()));
             }
             word => return Err(Expected("star, spot, error, none or name").but_found(Some(word))),
