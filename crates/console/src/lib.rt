@@ -25,105 +25,92 @@ pub fn status(outcome: Result<(), Stopped>) -> ExitCode
     }
 }
 
-/// Prints a line.
-fn print(rt: &HostRuntime, name: &str, line: impl Display + Drop) -> Result<(), Stopped> {
-    match println!(rt; "{line}") {
-        Ok(()) => Ok(()),
-        Err(error) => {
-            let _ = eprintln!(rt; "{name}: standard output cannot be written: {error}");
-            Err(Stopped)
-        }
-    }
-}
-
-/// Answers one line of a text, which stands at a place such as `sky.txt, line 3`.
-fn answer_line<P: Program>(
-    rt: &HostRuntime,
-    program: &mut P,
-    place: impl Display + Drop,
-    line: &str,
-) -> Result<(), Stopped> {
-    match program.read_line(line) {
-        Ok(None) => Ok(()),
-        Ok(Some(answer)) => print(rt, program.name(), answer),
-        Err(fault) => {
-            let name = program.name();
-            let _ = eprintln!(rt; "{name}: {place}: {fault}");
-            Err(Stopped)
-        }
-    }
-}
-
-/// Answers the lines of a text in turn, up to one that cannot be read.
-fn answer_text<P: Program, R: Read + Drop>(
-    rt: &HostRuntime,
-    program: &mut P,
-    source: &str,
-    text: R,
-) -> Result<(), Stopped> {
-    let reader = match BufReader::new(rt.alloc(), text) {
-        Ok(reader) => reader,
-        Err(error) => {
-            let name = program.name();
-            let _ = eprintln!(rt; "{name}: {source} cannot be read: {error}");
-            return Err(Stopped);
-        }
-    };
-    for (i, line) in reader.lines(rt.alloc()).enumerate() {
-        let number = i + 1;
-        match line {
-            Ok(line) => answer_line(
-                rt,
-                program,
-                format_args!("{source}, line {number}"),
-                line.as_str(),
-            )?,
-            Err(error) => {
-                let name = program.name();
-                let _ = eprintln!(rt; "{name}: {source}, line {number}: cannot be read: {error}");
-                return Err(Stopped);
-            }
-        }
-    }
-    Ok(())
-}
-
-/// Answers the text of a file.
-fn answer_file<P: Program>(rt: &HostRuntime, program: &mut P, path: &str) -> Result<(), Stopped> {
-    match File::open(rt, path) {
-        Ok(file) => answer_text(rt, program, path, file),
-        Err(error) => {
-            let name = program.name();
-            let _ = eprintln!(rt; "{name}: {path} cannot be opened: {error}");
-            Err(Stopped)
-        }
-    }
-}
-
 /// Runs a program on the file that its argument names, or on standard input.
 pub fn run<P: Program>(rt: &HostRuntime, program: &mut P) -> Result<(), Stopped> {
-    let name = program.name();
-    let mut args = match env::args(rt) {
-        Ok(args) => args,
-        Err(error) => {
-            let _ = eprintln!(rt; "{name}: the arguments cannot be read: {error}");
-            return Err(Stopped);
+    Console { rt, program }.run()
+}
+
+/// A program, and the outside that it runs in.
+#[derive(Drop)]
+struct Console<'a, P> {
+    rt: &'a HostRuntime,
+    program: &'a mut P,
+}
+
+impl<P: Program> Console<'_, P> {
+    /// Runs the program as its arguments say.
+    fn run(&mut self) -> Result<(), Stopped> {
+        let name = self.program.name();
+        let mut args = env::args(self.rt).map_err(|error| {
+            self.stop(format_args!("the arguments cannot be read: {error}"))
+        })?;
+        let _called_as = args.next();
+        let Some(word) = args.next() else {
+            return self.answer_text("standard input", self.rt.stdin());
+        };
+        if args.next().is_some() {
+            return Err(self.stop(format_args!("expected one file at most; try {name} --help")));
         }
-    };
-    let _called_as = args.next();
-    let Some(word) = args.next() else {
-        return answer_text(rt, program, "standard input", rt.stdin());
-    };
-    if args.next().is_some() {
-        let _ = eprintln!(rt; "{name}: expected one file at most; try {name} --help");
-        return Err(Stopped);
+        match word.as_str() {
+            "--help" | "-h" => {
+                let usage = self.program.usage();
+                self.print(usage)
+            }
+            option if option.starts_with('-') => Err(self.stop(format_args!(
+                "{option} is no option; try {name} --help"
+            ))),
+            path => self.answer_file(path),
+        }
     }
-    match word.as_str() {
-        "--help" | "-h" => print(rt, name, program.usage()),
-        option if option.starts_with('-') => {
-            let _ = eprintln!(rt; "{name}: {option} is no option; try {name} --help");
-            Err(Stopped)
+
+    /// Answers the text of a file.
+    fn answer_file(&mut self, path: &str) -> Result<(), Stopped> {
+        let file = File::open(self.rt, path).map_err(|error| self.stop(format_args!(
+            "{path} cannot be opened: {error}"
+        )))?;
+        self.answer_text(path, file)
+    }
+
+    /// Answers the lines of a text in turn, up to one that cannot be read.
+    fn answer_text<R: Read + Drop>(&mut self, source: &str, text: R) -> Result<(), Stopped> {
+        let heap = self.rt.alloc();
+        let reader = BufReader::new(heap, text).map_err(|error| self.stop(format_args!(
+            "{source} cannot be read: {error}"
+        )))?;
+        for (i, line) in reader.lines(heap).enumerate() {
+            let number = i + 1;
+            let place = format_args!("{source}, line {number}");
+            let line = line.map_err(|error| self.stop(format_args!(
+                "{place}: cannot be read: {error}"
+            )))?;
+            self.answer_line(place, line.as_str())?;
         }
-        path => answer_file(rt, program, path),
+        Ok(())
+    }
+
+    /// Answers one line of a text, which stands at a place such as `sky.txt, line 3`.
+    fn answer_line(&mut self, place: impl Display + Drop, line: &str) -> Result<(), Stopped> {
+        let answer = self
+            .program
+            .read_line(line)
+            .map_err(|fault| self.stop(format_args!("{place}: {fault}")))?;
+        match answer {
+            Some(answer) => self.print(answer),
+            None => Ok(()),
+        }
+    }
+
+    /// Prints a line.
+    fn print(&self, line: impl Display + Drop) -> Result<(), Stopped> {
+        println!(self.rt; "{line}").map_err(|error| {
+            self.stop(format_args!("standard output cannot be written: {error}"))
+        })
+    }
+
+    /// Says on standard error why the program stops.
+    fn stop(&self, why: impl Display + Drop) -> Stopped {
+        let name = self.program.name();
+        let _ = eprintln!(self.rt; "{name}: {why}");
+        Stopped
     }
 }

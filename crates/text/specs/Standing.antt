@@ -1,11 +1,8 @@
 -- What stands between the lines of a text, and what is answered there. Assumes nothing: these are definitions.
-use Rattle.std.specs.Prelude.{◌≡◌, ℕ, ◌*◌, min, List, [], vec_items}
+use Rattle.std.specs.Prelude.{◌≡◌, ◌≢◌, ℕ, ◌+◌, ◌*◌, ◌%◌, ◌⊎◌, min, List, [], ◌++◌, length, vec_items}
 use Rattle.sky.specs.Lent.{count}
-use Rattle.requests.specs.Refusals.{code}
-use Rattle.requests.specs.First.{Condition, NoneHolds, TurnedAway}
+use Rattle.requests.specs.First.{Condition}
 use Rattle.requests.specs.Requests.{naming, telling_apart}
-use Rattle.text.specs.declared.answer.Answer.{Answer}
-use Rattle.text.specs.declared.answer.Answer.TheVariants.{Taken, Refused}
 use Rattle.text.specs.declared.directions.Directions.{Directions}
 use Rattle.text.specs.declared.name_pictures.NamePictures.{NamePictures}
 use Rattle.text.specs.declared.check_catalogue.CheckCatalogue.{CheckCatalogue}
@@ -14,10 +11,11 @@ use Rattle.text.specs.declared.check_catalogue.CheckCatalogue.{CheckCatalogue}
 abbrev pub numbers : Directions → List ℕ
 numbers d = vec_items d.numbers
 
--- a request that is held to these conditions is taken where none holds, and else turned away by the first
-abbrev pub Says : List Condition → Answer → Type 0
-Says cs Taken = NoneHolds cs
-Says cs (Refused e) = TurnedAway cs (code e).0 (code e).1
+-- one line more of a list: behind threes come three numbers, or one that is over; any other list stays
+pub record LineMore (d e : Directions) : Type 0 where
+  pub begins : (more : List ℕ) × (numbers e ≡ numbers d ++ more)
+  pub grows : length (numbers d) % 3 ≡ 0 → (length (numbers e) ≡ length (numbers d) + 3) ⊎ (length (numbers e) ≡ length (numbers d) + 1)
+  pub stays : length (numbers d) % 3 ≢ 0 → numbers e ≡ numbers d
 
 -- the conditions for the picture that stands, with a room for as many names as it has spots
 abbrev pub picture_conditions : NamePictures → List Condition

@@ -2,22 +2,15 @@
 use requests::Refusal;
 use std::fmt;
 
-/// The answer to a request.
-#[derive(Clone, Copy, PartialEq, Debug)]
-pub enum Answer {
-    Taken,
-    Refused(Refusal),
-}
+/// The answer to a request: that it is taken, or the first reason against it.
+#[derive(Clone, Copy, PartialEq, Eq, Debug)]
+pub struct Answer(pub Result<(), Refusal>);
 
 impl fmt::Display for Answer {
     fn fmt<W: fmt::Write>(&self, f: &mut fmt::Formatter<W>) -> fmt::Result {
-        match self {
-            Answer::Taken => write!(f, "taken"),
-            Answer::Refused(refusal) => {
-                let number = refusal.number();
-                let place = refusal.place();
-                write!(f, "refused {number} at {place}")
-            }
+        match self.0 {
+            Ok(()) => write!(f, "taken"),
+            Err(refusal) => write!(f, "refused {} at {}", refusal.number(), refusal.place()),
         }
     }
 }

@@ -1,10 +1,12 @@
 // The program that checks catalogues, from line to line.
-ghost use Rattle.text.specs.Standing.{Says, group_conditions, NoCatalogue};
+ghost use Rattle.requests.specs.First.{Answers};
+ghost use Rattle.text.specs.Standing.{group_conditions, NoCatalogue};
 
 use crate::answer::Answer;
 use crate::directions::Directions;
-use crate::fault::{Fault, Found};
-use crate::line::only_number;
+use crate::expected::Expected;
+use crate::fault::Fault;
+use crate::line::Line;
 use crate::program::Program;
 use requests::ApartRequest;
 use requests::limits::LARGEST_GROUP;
@@ -44,7 +46,7 @@ impl CheckCatalogue {
 
     /// The answer for groups of so many stars of the catalogue that stands.
     fn answer(&self, size: u64) -> Answer
-        ensures { Says (group_conditions self.now size) result }
+        ensures { Answers (group_conditions self.now size) result.0 }
     {
         let request = ApartRequest {
             stars: self.stars.lent(),
@@ -52,10 +54,7 @@ impl CheckCatalogue {
             size,
             room: 2 * size.min(LARGEST_GROUP) as usize,
         };
-        match request.check() {
-            Ok(()) => Answer::Taken,
-            Err(refusal) => Answer::Refused(refusal),
-        }
+        Answer(request.check())
     }
 }
 
@@ -69,27 +68,17 @@ impl Program for CheckCatalogue {
     }
 
     fn read_line<'w>(&mut self, line: &'w str) -> Result<Option<Answer>, Fault<'w>> {
-        let mut words = line.split_whitespace();
-        let Some(word) = words.next() else {
+        let Some(line) = Line::new(line) else {
             return Ok(None);
         };
-        match word {
-            "star" => self.stars.add(words, "'star X Y Z' with whole numbers")?,
-            "error" => self.error = only_number(
-                words,
-                "'error E' with one whole number from 0 on",
-            )?,
+        match line.word {
+            "star" => self.stars.add(line.rest(Expected::STAR))?,
+            "error" => self.error = line.rest(Expected::ERROR).number()?,
             "apart" => {
-                let size = only_number(words, "'apart K' with one whole number from 0 on")?;
+                let size = line.rest(Expected::APART).number()?;
                 return Ok(Some(self.answer(size)));
             }
-            _ if word.starts_with('#') => {}
-            _ => {
-                return Err(Fault::Unexpected {
-                    found: Found::Word(word),
-                    expected: "star, error or apart",
-                });
-            }
+            word => return Err(Expected("star, error or apart").but_found(Some(word))),
         }
         Ok(None)
     }

@@ -1,10 +1,10 @@
 // A list of directions that grows line by line, as it is lent.
-ghost use Rattle.std.specs.Prelude.{◌≡◌, []};
+ghost use Rattle.std.specs.Prelude.{◌≡◌, [], OnOk, OnErr};
+ghost use Rattle.text.specs.Standing.{numbers, LineMore};
 
-use crate::fault::{Fault, Found};
-use crate::number::coordinate;
+use crate::fault::Fault;
+use crate::line::Rest;
 use std::alloc::Global;
-use std::str::SplitWhitespace;
 
 /// The directions of the lines so far, three numbers each. After a line without three numbers the
 /// list keeps one number over, so that the check of the request turns it away.
@@ -34,38 +34,21 @@ impl Directions {
         self.numbers.clear();
     }
 
-    /// Adds the direction whose numbers the words are.
-    pub(crate) fn add<'w>(
-        &mut self,
-        words: SplitWhitespace<'w>,
-        expected: &'static str,
-    ) -> Result<(), Fault<'w>> {
-        let mut three = [0u32; 3];
-        let mut count = 0usize;
-        for word in words {
-            let Some(number) = coordinate(word) else {
-                return Err(Fault::Unexpected {
-                    found: Found::Word(word),
-                    expected,
-                });
-            };
-            if count < 3 {
-                three[count] = number;
-            }
-            count = count.saturating_add(1);
-        }
+    /// Adds the direction whose numbers the rest of a line lists.
+    pub(crate) fn add<'w>(&mut self, rest: Rest<'w>) -> Result<(), Fault<'w>>
+        ensures ok { OnOk result (LineMore self.old self.new) }
+        ensures err { OnErr result (numbers self.new ≡ numbers self.old) }
+    {
+        let mut numbers = rest.coordinates(*self.numbers.allocator())?;
         // A line before had not three numbers, and no later line makes up for it.
         if self.numbers.len() % 3 != 0 {
             return Ok(());
         }
-        let more = if count == 3 {
-            &three[0..3]
-        } else {
-            &three[0..1]
-        };
-        match self.numbers.extend_from_slice(more) {
-            Ok(()) => Ok(()),
-            Err(_) => Err(Fault::NoMemory),
+        if numbers.len() != 3 {
+            // One number over; which one does not matter.
+            numbers.resize(1, 0)?;
         }
+        self.numbers.extend_from_slice(numbers.as_slice())?;
+        Ok(())
     }
 }

@@ -4,6 +4,7 @@
 pub mod answer;
 pub mod check_catalogue;
 mod directions;
+mod expected;
 pub mod fault;
 mod line;
 pub mod name_pictures;
@@ -23,12 +24,7 @@ mod tests {
 
     // Whether the program can read none of the lines of a text.
     fn reads_none<P: Program>(program: &mut P, text: &str) -> bool {
-        for line in text.lines() {
-            if program.read_line(line).is_ok() {
-                return false;
-            }
-        }
-        true
+        text.lines().all(|line| program.read_line(line).is_err())
     }
 
     #[test]
@@ -36,14 +32,11 @@ mod tests {
         let mut program = NamePictures::new(rt.alloc());
         assert!(rt; program.read_line("star 0 0 1000").is_ok());
         assert!(rt; program.read_line("spot 0 0 0").is_ok());
-        let Ok(Some(answer)) = program.read_line("name") else {
-            return Err(Fail::new("no answer"));
-        };
-        assert_eq!(rt; answer, Answer::Refused(Refusal::BadSpot { spot: Spot(0) }));
-        let Ok(Some(answer)) = program.read_line("name") else {
-            return Err(Fail::new("no answer"));
-        };
-        assert_eq!(rt; answer, Answer::Taken);
+        assert_eq!(rt;
+            program.read_line("name")?,
+            Some(Answer(Err(Refusal::BadSpot { spot: Spot(0) })))
+        );
+        assert_eq!(rt; program.read_line("name")?, Some(Answer(Ok(()))));
         Ok(())
     }
 
@@ -68,9 +61,7 @@ mod tests {
     #[test]
     fn what_was_expected(rt: HostRuntime) -> Result<(), Fail> {
         let mut program = CheckCatalogue::new(rt.alloc());
-        let Err(fault) = program.read_line("spot 1 2 3") else {
-            return Err(Fail::new("no fault"));
-        };
+        let fault = program.read_line("spot 1 2 3").err().ok_or("no fault")?;
         assert_eq!(rt;
             fault.to_string(rt.alloc())?.as_str(),
             "expected star, error or apart, found 'spot'"

@@ -1,10 +1,12 @@
 // The program that names the spots of pictures, from line to line.
-ghost use Rattle.text.specs.Standing.{Says, picture_conditions, NextPicture, NoPicture};
+ghost use Rattle.requests.specs.First.{Answers};
+ghost use Rattle.text.specs.Standing.{picture_conditions, NextPicture, NoPicture};
 
 use crate::answer::Answer;
 use crate::directions::Directions;
-use crate::fault::{Fault, Found};
-use crate::line::{end_of_line, only_number};
+use crate::expected::Expected;
+use crate::fault::Fault;
+use crate::line::Line;
 use crate::program::Program;
 use requests::NameRequest;
 use std::alloc::Global;
@@ -50,7 +52,7 @@ impl NamePictures {
 
     /// The answer for the picture that stands, after which the next picture begins.
     fn answer_and_clear(&mut self) -> Answer
-        ensures says { Says (picture_conditions self.old) result }
+        ensures says { Answers (picture_conditions self.old) result.0 }
         ensures next { NextPicture self.old self.new }
     {
         let answer = self.answer();
@@ -60,7 +62,7 @@ impl NamePictures {
 
     /// The answer for the picture that stands.
     fn answer(&self) -> Answer
-        ensures { Says (picture_conditions self.now) result }
+        ensures { Answers (picture_conditions self.now) result.0 }
     {
         let spots = self.spots.lent();
         let request = NameRequest {
@@ -70,10 +72,7 @@ impl NamePictures {
             none: self.none,
             room: spots.len() / 3,
         };
-        match request.check() {
-            Ok(()) => Answer::Taken,
-            Err(refusal) => Answer::Refused(refusal),
-        }
+        Answer(request.check())
     }
 }
 
@@ -87,29 +86,19 @@ impl Program for NamePictures {
     }
 
     fn read_line<'w>(&mut self, line: &'w str) -> Result<Option<Answer>, Fault<'w>> {
-        let mut words = line.split_whitespace();
-        let Some(word) = words.next() else {
+        let Some(line) = Line::new(line) else {
             return Ok(None);
         };
-        match word {
-            "star" => self.stars.add(words, "'star X Y Z' with whole numbers")?,
-            "spot" => self.spots.add(words, "'spot X Y Z' with whole numbers")?,
-            "error" => self.error = only_number(
-                words,
-                "'error E' with one whole number from 0 on",
-            )?,
-            "none" => self.none = only_number(words, "'none Q' with one whole number from 0 on")?,
+        match line.word {
+            "star" => self.stars.add(line.rest(Expected::STAR))?,
+            "spot" => self.spots.add(line.rest(Expected::SPOT))?,
+            "error" => self.error = line.rest(Expected::ERROR).number()?,
+            "none" => self.none = line.rest(Expected::NONE).number()?,
             "name" => {
-                end_of_line(words, "'name' alone")?;
+                line.rest(Expected::NAME).end()?;
                 return Ok(Some(self.answer_and_clear()));
             }
-            _ if word.starts_with('#') => {}
-            _ => {
-                return Err(Fault::Unexpected {
-                    found: Found::Word(word),
-                    expected: "star, spot, error, none or name",
-                });
-            }
+            word => return Err(Expected("star, spot, error, none or name").but_found(Some(word))),
         }
         Ok(None)
     }

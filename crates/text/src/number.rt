@@ -3,17 +3,11 @@ use sky::lent::ORIGIN;
 
 /// A whole number written in digits alone; one too large for the machine counts as the largest that fits.
 pub(crate) fn whole(word: &str) -> Option<u64> {
-    if word.is_empty() {
+    if word.is_empty() || !word.bytes().all(|b| b.is_ascii_digit()) {
         return None;
     }
-    let mut value: u64 = 0;
-    for b in word.bytes() {
-        if !b.is_ascii_digit() {
-            return None;
-        }
-        value = value.saturating_mul(10).saturating_add(u64::from(b - b'0'));
-    }
-    Some(value)
+    // Digits alone fail only where the number does not fit.
+    Some(word.parse().unwrap_or(u64::MAX))
 }
 
 /// A coordinate with its sign, as it is lent. One out of range is lent as 0, which no coordinate
