@@ -1,21 +1,31 @@
 // A list of directions that grows line by line, as it is lent.
 ghost use Rattle.std.specs.Prelude.{◌≡◌, [], OnOk, OnErr};
-ghost use Rattle.text.specs.Standing.{numbers, LineMore};
+ghost use Rattle.text.specs.Standing.{LineMore};
 
 use crate::fault::Fault;
 use crate::line::Rest;
 use std::alloc::Global;
+use std::marker::Model;
 
 /// The directions of the lines so far, three numbers each. After a line without three numbers the
-/// list keeps one number over, so that the check of the request turns it away.
+/// list keeps one number over, so that the check of the request turns it away. Contracts see the
+/// numbers, as they are lent.
 #[derive(Drop)]
 pub(crate) struct Directions {
     numbers: Vec<u32>,
 }
 
+impl Model for Directions {
+    ghost use Rattle.std.specs.Prelude.{ℕ, List};
+
+    ghost Value = { List ℕ };
+
+    ghost view = { λ d. d.numbers.items };
+}
+
 impl Directions {
     pub(crate) fn new(heap: Global) -> Directions
-        ensures { result.numbers.items ≡ [] }
+        ensures { result ≡ [] }
     {
         Directions {
             numbers: Vec::new(heap),
@@ -23,13 +33,13 @@ impl Directions {
     }
 
     pub(crate) fn lent(&self) -> &[u32]
-        ensures { result.now ≡ self.now.numbers.items }
+        ensures { result.now ≡ self.now }
     {
         self.numbers.as_slice()
     }
 
     pub(crate) fn clear(&mut self)
-        ensures { self.new.numbers.items ≡ [] }
+        ensures { self.new ≡ [] }
     {
         self.numbers.clear();
     }
@@ -37,7 +47,7 @@ impl Directions {
     /// Adds the direction whose numbers the rest of a line lists.
     pub(crate) fn add<'w>(&mut self, rest: Rest<'w>) -> Result<(), Fault<'w>>
         ensures ok { OnOk result (LineMore self.old self.new) }
-        ensures err { OnErr result (numbers self.new ≡ numbers self.old) }
+        ensures err { OnErr result (self.new ≡ self.old) }
     {
         let mut numbers = rest.coordinates(*self.numbers.allocator())?;
         // A line before had not three numbers, and no later line makes up for it.

@@ -9,6 +9,7 @@ use crate::fault::Fault;
 use crate::line::Line;
 use crate::program::Program;
 use requests::NameRequest;
+use sky::lent::count;
 use std::alloc::Global;
 
 /// What stands: the catalogue so far, the spots since the last request, the error, and how many
@@ -70,7 +71,7 @@ impl NamePictures {
             spots,
             error: self.error,
             none: self.none,
-            room: spots.len() / 3,
+            room: count(spots),
         };
         Answer(request.check())
     }
