@@ -1,10 +1,8 @@
 -- A part of a quotient, from the leading bits of the divisor and of the dividend.
-use Rattle.std.proofs.Common.{◌≡◌, ℕ, ◌+◌, ◌*◌, ◌/◌, ◌^◌, ◌<◌, ◌≤◌, sym, ap, ◌∙◌, subst, ⊎_elim, mul-le-mul_right, mul-le-mul_left, div-mul-le_self, arith}
+use Rattle.std.proofs.Common.{◌≡◌, ℕ, ◌+◌, ◌*◌, ◌/◌, ◌^◌, ◌<◌, ◌≤◌, sym, ap, subst, ⊎_elim, mul-le-mul_right, mul-le-mul_left, div-mul-le_self, arith}
 use Rattle.std.proofs.lemmas.Nat.{le-div, div_below, mod_below, pow_pos, shr_split, div-add-mod'}
 use Rattle.std.proofs.lemmas.Bool.{cases_lt}
-use Rattle.wide.specs.declared.dividing.Dividing.{Dividing}
 use Rattle.wide.specs.Divided.{Part}
-use Rattle.wide.specs.Dividing.{SameDivision}
 
 -- the divisor d is above 0 and at most t with i zeros behind it; n without its last i bits is m
 module _ (n d t i m : ℕ) (p : 0 < d) (h : d ≤ t * 2 ^ i) (l : m ≡ n / 2 ^ i) where
@@ -39,7 +37,3 @@ module _ (n d t i m : ℕ) (p : 0 < d) (h : d ≤ t * 2 ^ i) (l : m ≡ n / 2 ^ 
 -- ---- with p more in the quotient, p d less is left
 pub again : (d q r p m q₂ r₂ : ℕ) → m ≡ p * d → r₂ + m ≡ r → q₂ ≡ q + p → q₂ * d + r₂ ≡ q * d + r
 again d q r p m q₂ r₂ e f g = omega (arith, ap (λ v. v * d) g)
-
--- ---- a division goes on
-pub goes_on : (r s t : Dividing) → SameDivision r s → SameDivision s t → SameDivision r t
-goes_on r s t h k = record { dividend = k.dividend ∙ h.dividend; divisor = k.divisor ∙ h.divisor }
