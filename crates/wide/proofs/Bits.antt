@@ -1,6 +1,5 @@
 -- Numbers without their last bits, and how many bits a number has.
 use Rattle.std.proofs.Common.{◌≡◌, ℕ, zero, suc, ◌+◌, ◌-◌, ◌*◌, ◌/◌, ◌%◌, ◌^◌, ◌<◌, ◌≤◌, sym, ap, ◌∙◌, subst, ⊎_elim, zero-lt-suc, mul_comm, mul-lt-mul_of_pos_right, arith, pow_mono}
-use Rattle.std.proofs.Math.Nat.{pow-succ'}
 use Rattle.std.specs.Int.Count.{count_leading_zeros}
 use Rattle.std.proofs.lemmas.Nat.{pow_pos, pow-add, shr-shr, shr_le, shr_high, shr_below, le-div, div-add-mod', div-mul-add, mod-mul-add, mul-add-lt, div_below, mod_below, shr_split, leading_length}
 use Rattle.std.proofs.lemmas.Bool.{cases_lt}
@@ -32,43 +31,25 @@ past_a_word h l i p q =
     let e : i ≡ 64 + (i - 64) = omega arith in
     ap (λ j. (h * 2 ^ 64 + l) / 2 ^ j) e ∙ sym (shr-shr (h * 2 ^ 64 + l) 64 (i - 64)) ∙ ap (λ n. n / 2 ^ (i - 64)) (shr_high h 64 l p)
 
--- ---- how many bits a number has
-record HasBits (n m : ℕ) : Type 0 where
-  below : n < 2 ^ m
-  above : 2 ^ m ≤ 2 * n + 1
-
-at_most_twice : (n m : ℕ) → 0 < n → HasBits n m → 2 ^ m ≤ 2 * n
-at_most_twice n zero p h = absurd (omega arith)
-at_most_twice n (suc m) p h = omega (arith, pow-succ' 2 m)
-
-with_a_word : (h l m : ℕ) → 0 < h → l < 2 ^ 64 → HasBits h m → HasBits (h * 2 ^ 64 + l) (m + 64)
-with_a_word h l m p q b = record { below = omega (arith, pow-add 2 m 64); above = omega (arith, pow-add 2 m 64, at_most_twice h m p b) }
-
-past_32 : (n m i : ℕ) → HasBits n m → i ≡ m - 32 → Past32 n i
-past_32 n m i b e = ⊎_elim long short (cases_lt 32 m)
+-- ---- how many bits a number has, by the zeros in front
+by_length : (n m i : ℕ) → n < 2 ^ m → 2 ^ m ≤ 2 * n + 1 → i ≡ m - 32 → Past32 n i
+by_length n m i below above e = ⊎_elim long short (cases_lt 32 m)
   where
     long : 32 < m → Past32 n i
     long h =
         let f : m ≡ 32 + i = omega arith in
         let g : 2 ^ m ≡ 2 ^ 32 * 2 ^ i = ap (λ j. 2 ^ j) f ∙ pow-add 2 32 i in
         let k : 2 ^ 31 * 2 ^ i ≤ n = omega arith in
-        record { below = shr_below n 32 i (subst (λ j. n < 2 ^ j) f b.below); full = λ _. le-div (2 ^ 31) n (2 ^ i) (pow_pos i) k }
+        record { below = shr_below n 32 i (subst (λ j. n < 2 ^ j) f below); full = λ _. le-div (2 ^ 31) n (2 ^ i) (pow_pos i) k }
 
     short : m ≤ 32 → Past32 n i
     short h =
         let k : 2 ^ m ≤ 2 ^ 32 = pow_mono h in
         record { below = omega (arith, shr_le n i); full = λ z. absurd (omega arith) }
 
--- ---- two words, by the zeros in front
-pub two_words : (n h l i : ℕ) → h * 2 ^ 64 + l ≡ n → 0 < h → h < 2 ^ 64 → l < 2 ^ 64 → i ≡ 96 - count_leading_zeros 64 h → Past32 n i
-two_words n h l i s p q r e =
-    let (m, f, b, a) = leading_length 64 h q in
-    subst (λ k. Past32 k i) s (past_32 (h * 2 ^ 64 + l) (m + 64) i (with_a_word h l m p r (record { below = b; above = a })) (omega arith))
-
-pub one_word : (n l i : ℕ) → l ≡ n → l < 2 ^ 64 → i ≡ 32 - count_leading_zeros 64 l → Past32 n i
-one_word n l i s p e =
-    let (m, f, b, a) = leading_length 64 l p in
-    subst (λ k. Past32 k i) s (past_32 l m i (record { below = b; above = a }) (omega arith))
+pub past_32 : (n i : ℕ) → n < 2 ^ 128 → i ≡ 96 - count_leading_zeros 128 n → Past32 n i
+past_32 n i h e =
+    let (m, f, below, above) = leading_length 128 n h in by_length n m i below above (omega arith)
 
 -- ---- a number and its leading bits
 pub none_left : (n i : ℕ) → Past32 n i → n / 2 ^ i ≡ 0 → n ≡ 0

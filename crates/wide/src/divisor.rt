@@ -39,9 +39,5 @@ fn bits_past_32(number: Wide) -> u32
     ensures past { Past32 number result }
     ensures bound { result ≤ 96 }
 {
-    if number.high > 0 {
-        96 - number.high.leading_zeros()
-    } else {
-        32u32.saturating_sub(number.low.leading_zeros())
-    }
+    96u32.saturating_sub(u128::from(number).leading_zeros())
 }

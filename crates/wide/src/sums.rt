@@ -11,6 +11,14 @@ impl From<u64> for Wide {
     }
 }
 
+impl From<Wide> for u128 {
+    ghost from_gives = { λ w n. n ≡ w };
+
+    fn from(number: Wide) -> u128 {
+        u128::from(number.high) << 64 | u128::from(number.low)
+    }
+}
+
 impl Wide {
     /// The sum, or `None` where it does not fit 128 bits.
     pub fn checked_add(self, other: Wide) -> Option<Wide>

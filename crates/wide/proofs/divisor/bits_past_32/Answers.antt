@@ -1,11 +1,8 @@
-use Rattle.std.proofs.Common.{refl, arith}
-use Rattle.wide.proofs.Bits.{two_words, one_word}
+use Rattle.std.proofs.Common.{◌-◌, ap, ◌∙◌, arith}
+use Rattle.std.specs.Int.Count.{count_leading_zeros}
+use Rattle.wide.proofs.Bits.{past_32}
 use Rattle.wide.proofs.divisor.bits_past_32.Goals as goal
 
-pub returns-then-number-gt0-clause-past : goal.returns-then-number-gt0-clause-past
-returns-then-number-gt0-clause-past c =
-    two_words _ c.number.inside.high c.number.inside.low _ c.number.view_is c.if-number-gt0.true (omega arith) c.number.invariant refl
-
-pub returns-else-number-gt0-clause-past : goal.returns-else-number-gt0-clause-past
-returns-else-number-gt0-clause-past c =
-    one_word _ c.number.inside.low _ (omega (arith, c.number.view_is)) c.number.invariant c.saturating_sub.ensures
+pub returns-clause-past : goal.returns-clause-past
+returns-clause-past c =
+    past_32 c.args.number _ (omega (arith, c.from.type_inv, c.from.ensures)) (c.saturating_sub.ensures ∙ ap (λ n. 96 - count_leading_zeros 128 n) c.from.ensures)
