@@ -1,7 +1,7 @@
 // Directions as they are lent: each coordinate with 65,536 added.
 ghost use Rattle.std.specs.Prelude.{◌≡◌, MatchOption};
 ghost use Rattle.sky.specs.Directions.{DirectionOf};
-ghost use Rattle.sky.specs.Lent.{coordinate, lent, vectors};
+ghost use Rattle.sky.specs.Lent.{coordinate, count, lent, vectors};
 ghost use Rattle.sky.specs.Vectors.{InRange, star_at};
 
 use crate::direction::Direction;
@@ -23,6 +23,13 @@ impl Direction {
         }
         Some(Direction { x, y, z })
     }
+}
+
+/// How many directions a list of lent numbers holds.
+pub fn count(numbers: &[u32]) -> usize
+    ensures { result ≡ count numbers.now }
+{
+    numbers.len() / 3
 }
 
 /// The direction with number `i` of a list of lent numbers, or `None` where there is none, or what
