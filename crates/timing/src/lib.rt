@@ -14,7 +14,7 @@ fn sum_of_row(stars: LentStars<'_>, s: usize) -> Option<u64>
     ensures { MatchOption result (AllSound (vectors stars.entry.0.now) × (s < length (vectors stars.entry.0.now)) → ⊥) (λ sum. sum ≡ sum_of_row (vectors stars.entry.0.now) s s % 2 ^ 64) }
 {
     let d = stars.direction(Star(s))?;
-    // A `for` here and below: what `try_fold` and `fold` give is not proved from its invariant alone.
+    // A `for` here and below: the check finds no proof of what `try_fold` and `fold` give.
     let mut sum: u64 = 0;
     for t in 0..s {
         let e = stars.direction(Star(t))?;
