@@ -31,15 +31,18 @@ abbrev pub FirstUnsound : List ℕ → Option ℕ → Type 0
 FirstUnsound ns None = (k : ℕ) → k < count ns → SoundAt ns k
 FirstUnsound ns (Some i) = (i < count ns) × (SoundAt ns i → ⊥) × ((k : ℕ) → k < i → SoundAt ns k)
 
+-- a direction of a list that is not sound: at its place in the list
+abbrev pub unsound : (number : ℕ) (directions : List ℕ) → Condition
+unsound number directions =
+    record { number = number; at = λ p. (p < count directions) × (SoundAt directions p → ⊥) }
+
 -- a star that is no direction: at the star
 abbrev pub bad_star : (stars : List ℕ) → Condition
-bad_star stars =
-    record { number = 5; at = λ p. (p < count stars) × (SoundAt stars p → ⊥) }
+bad_star stars = unsound 5 stars
 
 -- a spot that is no direction: at the spot
 abbrev pub bad_spot : (spots : List ℕ) → Condition
-bad_spot spots =
-    record { number = 6; at = λ p. (p < count spots) × (SoundAt spots p → ⊥) }
+bad_spot spots = unsound 6 spots
 
 -- an error above 1,000,000: at 0
 abbrev pub error_too_large : (error : ℕ) → Condition

@@ -28,6 +28,5 @@ abbrev pub Answers : List Condition → Result Unit Refusal → Type 0
 Answers cs r = MatchResult r (λ _. NoneHolds cs) (λ e. TurnedAway cs (code e).0 (code e).1)
 
 -- what a check of one condition answers
-abbrev pub Checks : Condition → Result Unit Refusal → Type 0
-Checks c r =
-    MatchResult r (λ _. (p : ℕ) → c.at p → ⊥) (λ e. ((code e).0 ≡ c.number) × c.at (code e).1 × ((q : ℕ) → q < (code e).1 → c.at q → ⊥))
+pub record Checks (c : Condition) (r : Result Unit Refusal) : Type 0 where
+  pub checked : MatchResult r (λ _. (p : ℕ) → c.at p → ⊥) (λ e. ((code e).0 ≡ c.number) × c.at (code e).1 × ((q : ℕ) → q < (code e).1 → c.at q → ⊥))

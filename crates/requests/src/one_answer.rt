@@ -1,16 +1,14 @@
-// That a request has one answer: each function has a theorem as its contract, and its value means nothing.
+// That a request has one answer: each function has a theorem as its contract, and does nothing.
+#![tactic(auto, using(crate::proofs::OneAnswer::one_answer))]
+
 ghost use Rattle.requests.specs.OneAnswer.{NamingHasOneAnswer, TellingApartHasOneAnswer};
 
 /// A request to name spots has one answer.
-pub fn naming_has_one_answer() -> u8
+pub fn naming_has_one_answer()
     ensures { NamingHasOneAnswer }
-{
-    0
-}
+{}
 
 /// A request to tell groups apart has one answer.
-pub fn telling_apart_has_one_answer() -> u8
+pub fn telling_apart_has_one_answer()
     ensures { TellingApartHasOneAnswer }
-{
-    0
-}
+{}

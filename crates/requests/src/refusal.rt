@@ -4,7 +4,7 @@ ghost use Rattle.requests.specs.Refusals.{code};
 
 use sky::{Spot, Star};
 
-/// A lent list of directions.
+/// A lent list of directions; as a number it is the list's place.
 #[derive(Clone, Copy, PartialEq, Eq, Debug)]
 pub enum LentList {
     Stars,
@@ -63,10 +63,7 @@ impl Refusal {
         ensures { result ≡ (code self).1 }
     {
         match self {
-            Refusal::NotThrees { list } => match list {
-                LentList::Stars => 0,
-                LentList::Spots => 1,
-            },
+            Refusal::NotThrees { list } => list as usize,
             Refusal::StarCount { stars } => stars,
             Refusal::SpotCount { spots } => spots,
             Refusal::NamesRoom { length } => length,

@@ -1,12 +1,12 @@
 // What is asked of the camera and of the ground tool, and whether it is taken.
 ghost use Rattle.requests.specs.First.{Answers};
-ghost use Rattle.requests.specs.Requests.{naming, telling_apart, name_conditions, apart_conditions};
+ghost use Rattle.requests.specs.Requests.{name_conditions, apart_conditions};
 
 use crate::checks;
 use crate::refusal::Refusal;
 
 /// A request to name the spots of a picture by the stars of a catalogue.
-#[derive(Clone, Copy)]
+#[derive(Clone, Copy, PartialEq, Eq, Debug)]
 pub struct NameRequest<'s, 'p> {
     pub stars: &'s [u32],
     pub spots: &'p [u32],
@@ -19,7 +19,7 @@ pub struct NameRequest<'s, 'p> {
 }
 
 /// A request to tell groups of stars of a catalogue apart.
-#[derive(Clone, Copy)]
+#[derive(Clone, Copy, PartialEq, Eq, Debug)]
 pub struct ApartRequest<'s> {
     pub stars: &'s [u32],
     /// By how much the number of two spots may differ from that of their stars.
@@ -35,7 +35,21 @@ impl NameRequest<'_, '_> {
     pub fn check(&self) -> Result<(), Refusal>
         ensures { Answers (name_conditions self.now) result }
     {
-        naming_checks(self.stars, self.spots, self.error, self.none, self.room)
+        let NameRequest {
+            stars,
+            spots,
+            error,
+            none,
+            room,
+        } = *self;
+        checks::threes(stars, spots)?;
+        checks::star_count(stars)?;
+        checks::spot_count(spots)?;
+        checks::names_room(spots, room)?;
+        checks::sound_stars(stars)?;
+        checks::sound_spots(spots)?;
+        checks::error_limit(error)?;
+        checks::none_limit(none)
     }
 }
 
@@ -44,38 +58,17 @@ impl ApartRequest<'_> {
     pub fn check(&self) -> Result<(), Refusal>
         ensures { Answers (apart_conditions self.now) result }
     {
-        apart_checks(self.stars, self.error, self.size, self.room)
+        let ApartRequest {
+            stars,
+            error,
+            size,
+            room,
+        } = *self;
+        checks::threes(stars, &[])?;
+        checks::star_count(stars)?;
+        checks::sound_stars(stars)?;
+        checks::error_limit(error)?;
+        checks::group_size(size)?;
+        checks::rows_room(size, room)
     }
-}
-
-/// The checks for naming spots, in the order of their numbers.
-fn naming_checks(
-    stars: &[u32],
-    spots: &[u32],
-    error: u64,
-    none: u64,
-    room: usize,
-) -> Result<(), Refusal>
-    ensures { Answers (naming stars.now spots.now error none room) result }
-{
-    checks::threes(stars, spots)
-        .and(checks::star_count(stars))
-        .and(checks::spot_count(spots))
-        .and(checks::names_room(spots, room))
-        .and(checks::sound_stars(stars))
-        .and(checks::sound_spots(spots))
-        .and(checks::error_limit(error))
-        .and(checks::none_limit(none))
-}
-
-/// The checks for telling groups apart, in the order of their numbers.
-fn apart_checks(stars: &[u32], error: u64, size: u64, room: usize) -> Result<(), Refusal>
-    ensures { Answers (telling_apart stars.now error size room) result }
-{
-    checks::threes(stars, &[])
-        .and(checks::star_count(stars))
-        .and(checks::sound_stars(stars))
-        .and(checks::error_limit(error))
-        .and(checks::group_size(size))
-        .and(checks::rows_room(size, room))
 }

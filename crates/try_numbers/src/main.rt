@@ -1,7 +1,7 @@
 // Prints the number of each pair of directions that it reads, for the gate to compare with what another program computed.
 #![tactic(auto)]
 
-use anyhow::anyhow;
+use anyhow::Context;
 use sky::lent::ORIGIN;
 use sky::{Direction, pair_number};
 use std::io::{BufRead, BufReader};
@@ -23,18 +23,13 @@ fn number(line: &str) -> Option<u32> {
     let mut words = line.split_whitespace();
     let d = next_direction(&mut words)?;
     let e = next_direction(&mut words)?;
-    match words.next() {
-        Some(_) => None,
-        None => Some(pair_number(d, e)),
-    }
+    words.next().is_none().then_some(pair_number(d, e))
 }
 
 fn run(rt: &HostRuntime) -> anyhow::Result<()> {
     for line in BufReader::new(rt.alloc(), rt.stdin())?.lines(rt.alloc()) {
         let line = line?;
-        let Some(n) = number(line.as_str()) else {
-            return Err(anyhow!(format!(in rt.alloc(); "not two directions: {line}")?));
-        };
+        let n = number(line.as_str()).context(format_args!("not two directions: {line}"))?;
         println!(rt; "{n}")?;
     }
     Ok(())

@@ -1,9 +1,11 @@
-use Rattle.std.proofs.Common.{below_more}
-use Rattle.sky.specs.Lent.{vectors}
-use Rattle.sky.specs.Vectors.{star_at}
+use Rattle.std.proofs.Common.{rules, tests}
+use Rattle.std.proofs.lemmas.Iterator.{first_from_Range}
+use Rattle.sky.specs.Lent.{SoundAt}
 use Rattle.sky.proofs.Made.{made_sound}
 use Rattle.requests.proofs.checks.first_unsound.Goals as goal
 
-pub loop-i-preserved : goal.loop-i-preserved
-loop-i-preserved c =
-    below_more _ _ c.loop-i.invariant (made_sound (star_at (vectors c.args.numbers.now) c.loop-i.i) c.direction_at.result c.direction_at.ensures c.if-is_none.ensures)
+pub returns : goal.returns
+returns c =
+    let ns = c.args.numbers.now in
+    let f = first_from_Range _ _ _ c.find.result (λ i. SoundAt ns i → ⊥) (λ i. SoundAt ns i) c.find.ensures.ran (λ x q k. search (rules, tests)) (λ x q k. search (rules, tests, made_sound)) in
+    search rules
