@@ -2,7 +2,7 @@
 use Rattle.std.proofs.Common.{◌≡◌, ℕ, ◌<◌, Bool, true, false, cond, ltb, List, [], ◌∷◌, Ok, Err, Result, refl, sym, ap, subst, ◌∙◌, inl, inr, ⊎_elim, arith}
 use Rattle.std.proofs.lemmas.Bool.Decides.{nat_tests}
 use Rattle.std.proofs.lemmas.Result.{err_from_is_err_and}
-use Rattle.std.specs.Result.{result_from_control_flow, IsErrAnd}
+use Rattle.std.specs.Result.{result_and, result_from_control_flow, IsErrAnd}
 use Rattle.std.specs.declared.ops.ControlFlow.TheVariants.{Continue, Break}
 use Rattle.requests.specs.declared.refusal.Refusal.{Refusal}
 use Rattle.requests.specs.First.{Condition, Holds, Checks, Answers}
@@ -47,3 +47,36 @@ passed c cs r s b u h i j k = skipped c cs s (subst (Checks c) (i ∙ ap result_
 pub decided : (c : Condition) (r : Checked) → Checks c r → Answers (c ∷ []) r
 decided c (Ok u) h = skipped c [] (Ok u) h (record { none = λ n p i. i })
 decided c (Err e) h = held c [] e h refl
+
+-- ---- the same of all checks of a list at once, for a caller that has made each of them
+-- each condition was checked, with these results
+abbrev pub Each : List Condition → List Checked → Type 0
+Each [] [] = Unit {0}
+Each [] (r ∷ rs) = ⊥
+Each (c ∷ cs) [] = ⊥
+Each (c ∷ cs) (r ∷ rs) = Checks c r × Each cs rs
+
+-- the results one after another, as `r.and(s).and(t)` joins them
+abbrev pub joined : Checked → List Checked → Checked
+joined r [] = r
+joined r (s ∷ rs) = joined (result_and r s) rs
+
+joined_err : (e : Refusal) (rs : List Checked) → joined (Err e) rs ≡ Err e
+joined_err e [] = refl
+joined_err e (s ∷ rs) = joined_err e rs
+
+answers : (c : Condition) (cs : List Condition) (r : Checked) (rs : List Checked) → rising c.number cs ≡ true → Each (c ∷ cs) (r ∷ rs) → Answers (c ∷ cs) (joined r rs)
+answers c cs (Err e) rs o h = rw (joined_err e rs) (held c cs e h.0 o)
+answers c [] (Ok u) [] o h = decided c (Ok u) h.0
+answers c [] (Ok u) (s ∷ rs) o h = absurd h.1
+answers c (d ∷ cs) (Ok u) [] o h = absurd h.1
+answers c (d ∷ cs) (Ok u) (s ∷ rs) o h =
+    let k : (c.number < d.number) × (rising d.number cs ≡ true) = grind (arith, nat_tests) in
+    skipped c (d ∷ cs) (joined s rs) h.0 (answers d cs s rs k.1 h.1)
+
+-- checks in the order of their conditions answer, one behind the other, by the first condition that holds
+pub in_order : (cs : List Condition) (r : Checked) (rs : List Checked) (t : Checked) → t ≡ joined r rs → rising 0 cs ≡ true → Each cs (r ∷ rs) → Answers cs t
+in_order [] r rs t e o h = absurd h
+in_order (c ∷ cs) r rs t e o h =
+    let k : (0 < c.number) × (rising c.number cs ≡ true) = grind (arith, nat_tests) in
+    rw e (answers c cs r rs k.1 h)
