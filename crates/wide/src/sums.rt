@@ -51,6 +51,7 @@ impl Wide {
     }
 
     /// A product that fits 128 bits.
+    #[tactic(auto, using(crate::proofs::Products::by_words, crate::proofs::Products::crosses_fit))]
     pub(crate) fn times(self, other: Wide) -> Wide
         requires { self * other < 2 ^ 128 }
         ensures { result ≡ self * other }
