@@ -43,6 +43,7 @@ impl Refusal {
     pub fn number(self) -> u64
         ensures { result ≡ (code self).0 }
     {
+        // The cases carry what they speak of, so no cast gives their numbers.
         match self {
             Refusal::NotThrees { .. } => 1,
             Refusal::StarCount { .. } => 2,

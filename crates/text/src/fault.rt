@@ -40,7 +40,7 @@ impl From<AllocError> for Fault<'_> {
     ghost from_gives = { λ _ fault. fault ≡ NoMemory };
 
     fn from(_error: AllocError) -> Self {
-        Fault::NoMemory
+        Self::NoMemory
     }
 }
 

@@ -47,6 +47,7 @@ impl<'w> Rest<'w> {
 
     /// Nothing more stands in the line.
     pub(crate) fn end(mut self) -> Result<(), Fault<'w>> {
+        // The word that is found is handed on as the `Option` that it came in.
         match self.words.next() {
             None => Ok(()),
             word => Err(self.expected.but_found(word)),

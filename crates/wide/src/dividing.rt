@@ -102,6 +102,7 @@ impl Dividing {
         ensures same { SameDivision self.old self.new }
         ensures small { self.new.remainder < self.new.divisor.number }
     {
+        // No `while`: that two turns suffice is part of what is proved.
         for _turn in 0..2u32 {
             if self.is_done() {
                 return;

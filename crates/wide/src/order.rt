@@ -1,4 +1,4 @@
-// Numbers of two words compare by their values.
+// Numbers of two words compare by their values. A derived comparison would be promised by the words.
 ghost use Rattle.std.specs.Prelude.{◌==◌};
 ghost use Rattle.std.specs.Cmp.{partial_equiv_from_equiv, partial_order_from_own_ties};
 ghost use Rattle.std.specs.Cmp.Rules.{comparing};
