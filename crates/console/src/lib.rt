@@ -94,10 +94,7 @@ impl<P: Program> Console<'_, P> {
             .program
             .read_line(line)
             .map_err(|fault| self.stop(format_args!("{place}: {fault}")))?;
-        match answer {
-            Some(answer) => self.print(answer),
-            None => Ok(()),
-        }
+        answer.map_or(Ok(()), |answer| self.print(answer))
     }
 
     /// Prints a line.

@@ -10,7 +10,7 @@ use Rattle.requests.specs.First.{Condition, Holds, Checks, Answers}
 abbrev Checked : Type 0
 Checked = Result Unit Refusal
 
--- the conditions stand in the order of their numbers, each number above m
+-- whether the conditions stand in the order of their numbers, each number above m
 abbrev pub rising : ℕ → List Condition → Bool
 rising m [] = true
 rising m (c ∷ cs) = cond (ltb m c.number) (rising c.number cs) false
@@ -49,6 +49,18 @@ decided c (Ok u) h = skipped c [] (Ok u) h (record { none = λ n p i. i })
 decided c (Err e) h = held c [] e h refl
 
 -- ---- the same of all checks of a list at once, for a caller that has made each of them
+-- the conditions stand in the order of their numbers, each number above m
+abbrev pub Rising : ℕ → List Condition → Type 0
+Rising m [] = Unit {0}
+Rising m (c ∷ cs) = (m < c.number) × Rising c.number cs
+
+risen : (m : ℕ) (cs : List Condition) → Rising m cs → rising m cs ≡ true
+risen m [] h = refl
+risen m (c ∷ cs) h =
+    let k : rising c.number cs ≡ true = risen c.number cs h.1 in
+    let l : m < c.number = h.0 in
+    grind (arith, nat_tests)
+
 -- each condition was checked, with these results
 abbrev pub Each : List Condition → List Checked → Type 0
 Each [] [] = Unit {0}
@@ -75,8 +87,6 @@ answers c (d ∷ cs) (Ok u) (s ∷ rs) o h =
     skipped c (d ∷ cs) (joined s rs) h.0 (answers d cs s rs k.1 h.1)
 
 -- checks in the order of their conditions answer, one behind the other, by the first condition that holds
-pub in_order : (cs : List Condition) (r : Checked) (rs : List Checked) (t : Checked) → t ≡ joined r rs → rising 0 cs ≡ true → Each cs (r ∷ rs) → Answers cs t
+pub in_order : (cs : List Condition) (r : Checked) (rs : List Checked) (t : Checked) → t ≡ joined r rs → Rising 0 cs → Each cs (r ∷ rs) → Answers cs t
 in_order [] r rs t e o h = absurd h
-in_order (c ∷ cs) r rs t e o h =
-    let k : (0 < c.number) × (rising c.number cs ≡ true) = grind (arith, nat_tests) in
-    rw e (answers c cs r rs k.1 h)
+in_order (c ∷ cs) r rs t e o h = rw e (answers c cs r rs (risen c.number cs o.1) h)

@@ -30,7 +30,7 @@ pub fn star_count(stars: &[u32]) -> Result<(), Refusal>
 {
     let stars = count(stars);
     refuse_if(
-        stars < 1 || stars > MOST_STARS,
+        !(1..=MOST_STARS).contains(&stars),
         Refusal::StarCount { stars },
     )
 }
@@ -90,7 +90,7 @@ pub fn group_size(size: u64) -> Result<(), Refusal>
     ensures { Checks (group_size size) result }
 {
     refuse_if(
-        size < SMALLEST_GROUP || size > LARGEST_GROUP,
+        !(SMALLEST_GROUP..=LARGEST_GROUP).contains(&size),
         Refusal::GroupSize,
     )
 }

@@ -5,7 +5,7 @@ use Rattle.sky.specs.declared.direction.Direction.{Direction}
 
 -- the direction of a vector, or none where the vector is not sound
 abbrev pub DirectionOf : Vector → Option Direction → Type 0
-DirectionOf v r = MatchOption r (Sound v → ⊥) (λ d. (d ≡ v) × Sound v)
+DirectionOf v r = MatchOption r (Sound v → ⊥) (λ d. d ≡ v)
 
 -- the number of the pair of stars i and j, or none where one of them is no direction
 abbrev pub NumberOf : List Vector → ℕ → ℕ → Option ℕ → Type 0

@@ -36,7 +36,7 @@ impl Coordinate {
     pub(crate) fn from_lent(n: u32) -> Option<Coordinate>
         ensures { MatchOption result (InRange (coordinate n) → ⊥) (λ c. (c ≡ coordinate n) × InRange c) }
     {
-        if n < 1 || n > LARGEST {
+        if !(1..=LARGEST).contains(&n) {
             return None;
         }
         Some(Coordinate {

@@ -1,8 +1,8 @@
 // A direction.
-ghost use Rattle.std.specs.Prelude.{◌≡◌, ◌<◌};
+ghost use Rattle.std.specs.Prelude.{◌≡◌, ◌<◌, IfSome};
 ghost use Rattle.sky.specs.Directions.{DirectionOf};
 ghost use Rattle.sky.specs.Lent.{lent};
-ghost use Rattle.sky.specs.Vectors.{length²};
+ghost use Rattle.sky.specs.Vectors.{Sound, length²};
 
 use crate::coordinate::Coordinate;
 use std::marker::Model;
@@ -31,7 +31,8 @@ impl Model for Direction {
 impl Direction {
     /// The direction that three numbers are lent for, or `None` where they are not sound.
     pub fn from_lent(x: u32, y: u32, z: u32) -> Option<Direction>
-        ensures { DirectionOf (lent x y z) result }
+        ensures made { DirectionOf (lent x y z) result }
+        ensures sound { IfSome result Sound }
     {
         let x = Coordinate::from_lent(x)?;
         let y = Coordinate::from_lent(y)?;
@@ -40,6 +41,13 @@ impl Direction {
             return None;
         }
         Some(Direction { x, y, z })
+    }
+
+    /// That the direction is sound, for a proof that holds it behind a reference.
+    pub fn sound(&self)
+        ensures { Sound self.now }
+    {
+        let _x = self.x;
     }
 
     /// The sum of the squares of the coordinates; below 2^34.

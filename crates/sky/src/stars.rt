@@ -29,6 +29,7 @@ pub struct LentStars<'a>(pub &'a [u32]);
 impl Stars for LentStars<'_> {
     ghost directions = { λ s. vectors s.0.now };
 
+    #[tactic(auto, using(crate::proofs::LentVectors::vectors_length))]
     fn count(&self) -> usize {
         count(self.0)
     }

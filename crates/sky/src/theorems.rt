@@ -3,11 +3,13 @@ ghost use Rattle.sky.specs.Examples.{WorkedExamples};
 ghost use Rattle.sky.specs.Theorems.{SameEitherWay, SineAtMostOne, AtMost2^24, Fits128Bits};
 
 /// The number of a pair is the same either way round.
+#[tactic(auto, using(crate::proofs::Pairs::same_either_way))]
 pub fn same_either_way()
     ensures { SameEitherWay }
 {}
 
 /// A sine is at most 1.
+#[tactic(auto, using(crate::proofs::Pairs::sine_at_most_one))]
 pub fn sine_at_most_one()
     ensures { SineAtMostOne }
 {}

@@ -47,18 +47,20 @@ impl<'w> Rest<'w> {
 
     /// Nothing more stands in the line.
     pub(crate) fn end(mut self) -> Result<(), Fault<'w>> {
-        // The word that is found is handed on as the `Option` that it came in.
-        match self.words.next() {
-            None => Ok(()),
-            word => Err(self.expected.but_found(word)),
-        }
+        self.words
+            .next()
+            .map_or(Ok(()), |word| Err(self.expected.but_found(Some(word))))
     }
 
-    /// The coordinates, as they are lent; every word has to be one.
+    /// The coordinates, as they are lent; every word has to be one. Past the third they are too
+    /// many, and one more is kept to show it.
     pub(crate) fn coordinates(self, heap: Global) -> Result<Vec<u32>, Fault<'w>> {
         let Rest { words, expected } = self;
-        words
-            .map(|word| coordinate(word).ok_or(expected.but_found(Some(word))))
-            .try_collect(heap)
+        let mut coordinates = words.map(|word| coordinate(word).ok_or(expected.but_found(Some(
+            word,
+        ))));
+        let first = coordinates.by_ref().take(4).try_collect(heap)?;
+        coordinates.try_for_each(|coordinate| coordinate.map(|_| ()))?;
+        Ok(first)
     }
 }

@@ -10,19 +10,13 @@ pub(crate) fn whole(word: &str) -> Option<u64> {
     Some(word.parse().unwrap_or(u64::MAX))
 }
 
-/// A coordinate with its sign, as it is lent. One out of range is lent as 0, which no coordinate
-/// is lent as, so that the check of the request turns it away.
+/// A coordinate with its sign, as it is lent. One out of range is lent as a number that no
+/// coordinate is lent as, so that the check of the request turns it away: itself with 65,536 added,
+/// or 0 where that does not fit.
 pub(crate) fn coordinate(word: &str) -> Option<u32> {
-    let below = word.strip_prefix('-');
-    let above = word.strip_prefix('+').unwrap_or(word);
-    let size = whole(below.unwrap_or(above))?;
-    if size >= u64::from(ORIGIN) {
-        return Some(0);
-    }
-    let size = size as u32;
-    Some(if below.is_some() {
-        ORIGIN - size
-    } else {
-        ORIGIN + size
-    })
+    whole(word.strip_prefix(['-', '+']).unwrap_or(word))?;
+    // A sign and digits fail only where the number does not fit.
+    let coordinate: Option<i32> = word.parse().ok();
+    let lent = coordinate.and_then(|c| ORIGIN.checked_add_signed(c));
+    Some(lent.unwrap_or(0))
 }

@@ -23,8 +23,7 @@ fn sum_of_row(stars: LentStars<'_>, s: usize) -> Option<u64>
     Some(sum)
 }
 
-/// The sum of the numbers of all pairs of stars, modulo 2^64. Where a star is no direction, the sum
-/// means nothing: who calls it from C is given a number, and no `None`.
+/// The sum of the numbers of all pairs of stars, modulo 2^64. Where a star is no direction, the sum means nothing.
 pub fn sum_of_pair_numbers(stars: &[u32]) -> u64
     ensures { AllSound (vectors stars.now) → result ≡ sum_of_all (vectors stars.now) % 2 ^ 64 }
 {

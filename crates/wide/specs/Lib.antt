@@ -2,4 +2,4 @@ pub mod Value
 pub mod Words
 pub mod Divided
 pub mod Leading
-pub mod Dividing
+pub mod LongDivision

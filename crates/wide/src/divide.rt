@@ -2,8 +2,8 @@
 ghost use Rattle.std.specs.Prelude.{◌≡◌, MatchOption};
 ghost use Rattle.wide.specs.Divided.{Divided};
 
-use crate::dividing::Dividing;
 use crate::divisor::Divisor;
+use crate::long_division::LongDivision;
 use crate::wide::Wide;
 
 /// How often a divisor goes into a number, and what is left.
@@ -19,13 +19,13 @@ impl Wide {
     pub fn divided_by(self, divisor: Divisor) -> Division
         ensures { Divided self divisor.number result.quotient result.remainder }
     {
-        let mut dividing = Dividing::new(self, divisor);
-        dividing.take_high_parts();
-        dividing.take_low_part();
-        dividing.take_last_two();
+        let mut division = LongDivision::new(self, divisor);
+        division.take_high_parts();
+        division.take_low_part();
+        division.take_last_two();
         Division {
-            quotient: dividing.quotient,
-            remainder: dividing.remainder,
+            quotient: division.quotient,
+            remainder: division.remainder,
         }
     }
 

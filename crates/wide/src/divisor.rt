@@ -20,6 +20,7 @@ pub struct Divisor {
 
 impl Divisor {
     /// The number as a divisor, or `None` where it is 0.
+    #[tactic(auto, using(crate::proofs::Bits::none_left))]
     pub fn new(number: Wide) -> Option<Divisor>
         ensures { MatchOption result (number ≡ 0) (λ d. d.number ≡ number) }
     {
@@ -35,6 +36,7 @@ impl Divisor {
 }
 
 /// How many bits a number has past its first 32.
+#[tactic(auto, using(crate::proofs::Bits::past_32))]
 fn bits_past_32(number: Wide) -> u32
     ensures past { Past32 number result }
     ensures bound { result ≤ 96 }

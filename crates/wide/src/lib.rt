@@ -2,8 +2,8 @@
 #![tactic(auto)]
 
 pub mod divide;
-mod dividing;
 pub mod divisor;
+mod long_division;
 pub mod order;
 mod shift;
 pub mod sums;

@@ -26,7 +26,7 @@ impl Wide {
     {
         let (low, carry) = self.low.carrying_add(other.low, false);
         let (high, over) = self.high.carrying_add(other.high, carry);
-        if over { None } else { Some(Wide { high, low }) }
+        (!over).then_some(Wide { high, low })
     }
 
     /// The difference, or `None` where it would be below 0.
@@ -35,11 +35,7 @@ impl Wide {
     {
         let (low, borrow) = self.low.borrowing_sub(other.low, false);
         let (high, below) = self.high.borrowing_sub(other.high, borrow);
-        if below {
-            None
-        } else {
-            Some(Wide { high, low })
-        }
+        (!below).then_some(Wide { high, low })
     }
 
     /// The product of two words.

@@ -1,6 +1,6 @@
 use Rattle.std.proofs.Common.{◌+◌, ◌*◌, ◌/◌, ◌^◌, ◌∙◌, arith}
 use Rattle.wide.proofs.Parts.{part}
-use Rattle.wide.proofs.dividing.Dividing.high_part.Goals as goal
+use Rattle.wide.proofs.long_division.LongDivision.high_part.Goals as goal
 
 pub returns-then-lead-top : goal.returns-then-lead-top
 returns-then-lead-top c =

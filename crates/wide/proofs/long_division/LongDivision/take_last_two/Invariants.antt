@@ -1,7 +1,7 @@
 -- With each turn the remainder is below one divisor less.
 use Rattle.std.proofs.Common.{◌+◌, ◌*◌, ◌<◌}
-use Rattle.wide.specs.Dividing.{SameDivision}
-use Rattle.wide.proofs.dividing.Dividing.take_last_two.Given as goal
+use Rattle.wide.specs.LongDivision.{SameDivision}
+use Rattle.wide.proofs.long_division.LongDivision.take_last_two.Given as goal
 
 abbrev pub invariant-loop-turn : goal.invariant-loop-turn
 invariant-loop-turn l =

@@ -1,5 +1,5 @@
-use Rattle.wide.specs.Dividing.{SameDivision}
-use Rattle.wide.proofs.dividing.Dividing.take_high_parts.Given as goal
+use Rattle.wide.specs.LongDivision.{SameDivision}
+use Rattle.wide.proofs.long_division.LongDivision.take_high_parts.Given as goal
 
 abbrev pub invariant-loop-part : goal.invariant-loop-part
 invariant-loop-part l = SameDivision l.initial.self l.self

@@ -1,4 +1,4 @@
-// A division on its way to the quotient.
+// A long division, step by step.
 ghost use Rattle.std.specs.Prelude.{◌≡◌, ◌+◌, ◌*◌, ◌^◌, ◌<◌, ◌≤◌, ◌↔◌, IsTrue, MatchOption};
 
 use crate::divisor::Divisor;
@@ -6,23 +6,23 @@ use crate::wide::Wide;
 
 /// The quotient so far, what is left of the number that is divided, and the divisor.
 #[derive(Clone, Copy)]
-pub(crate) struct Dividing {
+pub(crate) struct LongDivision {
     pub(crate) quotient: Wide,
     pub(crate) remainder: Wide,
     pub(crate) divisor: Divisor,
     ghost fits: { quotient * divisor.number + remainder < 2 ^ 128 },
 }
 
-impl Dividing {
+impl LongDivision {
     ghost use Rattle.wide.specs.Divided.{Part};
-    ghost use Rattle.wide.specs.Dividing.{dividend, IsShort, SameDivision};
+    ghost use Rattle.wide.specs.LongDivision.{dividend, IsShort, SameDivision};
 
     /// A number of which nothing was taken yet.
-    pub(crate) fn new(number: Wide, divisor: Divisor) -> Dividing
+    pub(crate) fn new(number: Wide, divisor: Divisor) -> LongDivision
         ensures dividend { dividend result ≡ number }
         ensures divisor { result.divisor ≡ divisor }
     {
-        Dividing {
+        LongDivision {
             quotient: Wide::from(0),
             remainder: number,
             divisor,
@@ -70,6 +70,7 @@ impl Dividing {
     }
 
     /// A short quotient, or up to two less.
+    #[tactic(auto, using(crate::proofs::Parts::near_part))]
     fn low_part(&self) -> u32
         requires { IsShort self.now }
         ensures fits { result * self.now.divisor.number ≤ self.now.remainder }
@@ -79,7 +80,7 @@ impl Dividing {
         (lead.low / self.divisor.top) as u32
     }
 
-    /// Takes the divisor off a short quotient's times, or up to two less.
+    /// Takes the divisor off as often as `low_part` says.
     pub(crate) fn take_low_part(&mut self)
         requires { IsShort self.old }
         ensures same { SameDivision self.old self.new }

@@ -1,6 +1,6 @@
 use Rattle.std.proofs.Common.{refl, arith}
 use Rattle.wide.proofs.Parts.{again}
-use Rattle.wide.proofs.dividing.Dividing.take_off.Goals as goal
+use Rattle.wide.proofs.long_division.LongDivision.take_off.Goals as goal
 
 pub invariant_of-self : goal.invariant_of-self
 invariant_of-self c =
