@@ -49,16 +49,16 @@ impl Directions {
         ensures ok { OnOk result (LineMore self.old self.new) }
         ensures err { OnErr result (self.new ≡ self.old) }
     {
-        let mut numbers = rest.coordinates(*self.numbers.allocator())?;
+        let direction = rest.direction()?;
         // A line before had not three numbers, and no later line makes up for it.
         if self.numbers.len() % 3 != 0 {
             return Ok(());
         }
-        if numbers.len() != 3 {
+        match direction {
+            Some(numbers) => self.numbers.extend_from_slice(&numbers)?,
             // One number over; which one does not matter.
-            numbers.resize(1, 0)?;
+            None => self.numbers.extend_from_slice(&[0])?,
         }
-        self.numbers.extend_from_slice(numbers.as_slice())?;
         Ok(())
     }
 }

@@ -2,7 +2,6 @@
 use crate::expected::Expected;
 use crate::fault::Fault;
 use crate::number::{coordinate, whole};
-use std::alloc::Global;
 use std::str::SplitWhitespace;
 
 /// A line that says something: its first word, and the words behind it.
@@ -52,15 +51,21 @@ impl<'w> Rest<'w> {
             .map_or(Ok(()), |word| Err(self.expected.but_found(Some(word))))
     }
 
-    /// The coordinates, as they are lent; every word has to be one. Past the third they are too
-    /// many, and one more is kept to show it.
-    pub(crate) fn coordinates(self, heap: Global) -> Result<Vec<u32>, Fault<'w>> {
+    /// The three coordinates of a direction, as they are lent, or `None` where there are more or
+    /// fewer. Every word has to be a coordinate.
+    pub(crate) fn direction(self) -> Result<Option<[u32; 3]>, Fault<'w>> {
         let Rest { words, expected } = self;
         let mut coordinates = words.map(|word| coordinate(word).ok_or(expected.but_found(Some(
             word,
         ))));
-        let first = coordinates.by_ref().take(4).try_collect(heap)?;
+        let x = coordinates.next().transpose()?;
+        let y = coordinates.next().transpose()?;
+        let z = coordinates.next().transpose()?;
+        let more = coordinates.next().transpose()?;
         coordinates.try_for_each(|coordinate| coordinate.map(|_| ()))?;
-        Ok(first)
+        Ok(match (x, y, z, more) {
+            (Some(x), Some(y), Some(z), None) => Some([x, y, z]),
+            _ => None,
+        })
     }
 }
