@@ -9,7 +9,7 @@ import re
 import sys
 
 KEYWORDS = set("let mut fn if else match return for in while loop as use pub impl Some None Ok Err self Self".split())
-TOKEN = re.compile(r'//[^\n]*|"(?:\\.|[^"\\])*"|\'(?:\\.|[^\'\\])\'|[A-Za-z_][A-Za-z_0-9]*|[0-9][0-9A-Za-z_]*|[^\sA-Za-z_0-9]')
+TOKEN = re.compile(r'//[^\n]*|"(?:\\[\s\S]|[^"\\])*"|\'(?:\\.|[^\'\\])\'|[A-Za-z_][A-Za-z_0-9]*|[0-9][0-9A-Za-z_]*|[^\sA-Za-z_0-9]')
 
 
 def tokens(text):
