@@ -1,15 +1,14 @@
 -- What stands between the lines of a text, and what is answered there. Assumes nothing: these are definitions.
-use Rattle.std.specs.Prelude.{◌≡◌, ◌≢◌, ℕ, ◌+◌, ◌*◌, ◌%◌, ◌⊎◌, min, List, [], ◌++◌, length}
+use Rattle.std.specs.Prelude.{◌≡◌, ◌≢◌, ℕ, ◌*◌, ◌%◌, min, List, [], ◌∷◌, ◌++◌, length, Option, MatchOption}
 use Rattle.sky.specs.Lent.{count}
 use Rattle.requests.specs.First.{Condition}
 use Rattle.requests.specs.Requests.{naming, telling_apart}
 use Rattle.text.specs.declared.name_pictures.NamePictures.{NamePictures}
 use Rattle.text.specs.declared.check_catalogue.CheckCatalogue.{CheckCatalogue}
 
--- one line more of a list: behind threes come three numbers, or one that is over; any other list stays
-pub record LineMore (ns ms : List ℕ) : Type 0 where
-  pub begins : (more : List ℕ) × (ms ≡ ns ++ more)
-  pub grows : length ns % 3 ≡ 0 → (length ms ≡ length ns + 3) ⊎ (length ms ≡ length ns + 1)
+-- one line more of a list, with a direction or without: behind threes come its three numbers, or one that is over; any other list stays
+pub record LineMore (direction : Option (List ℕ)) (ns ms : List ℕ) : Type 0 where
+  pub grows : length ns % 3 ≡ 0 → MatchOption direction (ms ≡ ns ++ 0 ∷ []) (λ three. ms ≡ ns ++ three)
   pub stays : length ns % 3 ≢ 0 → ms ≡ ns
 
 -- the conditions for the picture that stands, with a room for as many names as it has spots

@@ -72,7 +72,7 @@ impl Program for CheckCatalogue {
             return Ok(None);
         };
         match line.word {
-            "star" => self.stars.add(line.rest(Expected::STAR))?,
+            "star" => self.stars.add(line.rest(Expected::STAR).direction()?)?,
             "error" => self.error = line.rest(Expected::ERROR).number()?,
             "apart" => {
                 let size = line.rest(Expected::APART).number()?;

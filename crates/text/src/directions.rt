@@ -2,9 +2,7 @@
 ghost use Rattle.std.specs.Prelude.{◌≡◌, [], OnOk, OnErr};
 ghost use Rattle.text.specs.Standing.{LineMore};
 
-use crate::fault::Fault;
-use crate::line::Rest;
-use std::alloc::Global;
+use std::alloc::{AllocError, Global};
 use std::marker::Model;
 
 /// The directions of the lines so far, three numbers each. After a line without three numbers the
@@ -44,21 +42,19 @@ impl Directions {
         self.numbers.clear();
     }
 
-    /// Adds the direction whose numbers the rest of a line lists.
-    pub(crate) fn add<'w>(&mut self, rest: Rest<'w>) -> Result<(), Fault<'w>>
-        ensures ok { OnOk result (LineMore self.old self.new) }
+    /// Adds the direction of a line, or one number over where the line has none.
+    pub(crate) fn add(&mut self, direction: Option<[u32; 3]>) -> Result<(), AllocError>
+        ensures ok { OnOk result (LineMore direction self.old self.new) }
         ensures err { OnErr result (self.new ≡ self.old) }
     {
-        let direction = rest.direction()?;
         // A line before had not three numbers, and no later line makes up for it.
         if self.numbers.len() % 3 != 0 {
             return Ok(());
         }
         match direction {
-            Some(numbers) => self.numbers.extend_from_slice(&numbers)?,
-            // One number over; which one does not matter.
-            None => self.numbers.extend_from_slice(&[0])?,
+            Some(numbers) => self.numbers.extend_from_slice(&numbers),
+            // No coordinate is lent as 0.
+            None => self.numbers.extend_from_slice(&[0]),
         }
-        Ok(())
     }
 }

@@ -91,8 +91,8 @@ impl Program for NamePictures {
             return Ok(None);
         };
         match line.word {
-            "star" => self.stars.add(line.rest(Expected::STAR))?,
-            "spot" => self.spots.add(line.rest(Expected::SPOT))?,
+            "star" => self.stars.add(line.rest(Expected::STAR).direction()?)?,
+            "spot" => self.spots.add(line.rest(Expected::SPOT).direction()?)?,
             "error" => self.error = line.rest(Expected::ERROR).number()?,
             "none" => self.none = line.rest(Expected::NONE).number()?,
             "name" => {

@@ -1,6 +1,7 @@
 // Whole numbers of 128 bits, kept in two words of 64 bits.
 #![tactic(auto)]
 
+pub mod convert;
 pub mod divide;
 pub mod divisor;
 mod long_division;
