@@ -1,5 +1,6 @@
 pub mod LentVectors
 pub mod Made
 pub mod Pairs
+pub mod Signed
 pub mod Sizes
 pub mod Steps

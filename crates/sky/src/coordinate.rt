@@ -3,7 +3,6 @@ ghost use Rattle.std.specs.Prelude.{◌≡◌, ◌*◌, ◌≤◌, ◌*ℤ◌, �
 ghost use Rattle.sky.specs.Lent.{coordinate};
 ghost use Rattle.sky.specs.Vectors.{InRange, square};
 
-use std::marker::Model;
 use std::ops::Mul;
 
 /// What is added to a coordinate when it is lent.
@@ -16,25 +15,13 @@ const LARGEST: u32 = 131_071;
 #[derive(Clone, Copy)]
 pub(crate) struct Coordinate {
     value: i32,
-}
-
-impl Model for Coordinate {
-    ghost use Rattle.std.specs.Prelude.{ℤ};
-    ghost use Rattle.sky.specs.Vectors.{InRange};
-
-    ghost Value = { ℤ };
-
-    ghost view = { λ c. c.value };
-
-    ghost invariant = { λ c. InRange c.value };
-
-    ghost inverse = { λ a. record { value = a } };
+    ghost in_range: { InRange value },
 }
 
 impl Coordinate {
     /// The coordinate that a number is lent for, or `None` where it is out of range.
     pub(crate) fn from_lent(n: u32) -> Option<Coordinate>
-        ensures { MatchOption result (InRange (coordinate n) → ⊥) (λ c. (c ≡ coordinate n) × InRange c) }
+        ensures { MatchOption result (InRange (coordinate n) → ⊥) (λ c. (c.value ≡ coordinate n) × InRange c.value) }
     {
         if !(1..=LARGEST).contains(&n) {
             return None;
@@ -45,14 +32,14 @@ impl Coordinate {
     }
 
     pub(crate) fn is_zero(self) -> bool
-        ensures { IsTrue result ↔ (self ≡ pos 0) }
+        ensures { IsTrue result ↔ (self.value ≡ pos 0) }
     {
         self.value == 0
     }
 
     #[tactic(auto, unfolding(crate::specs::Vectors::square))]
     pub(crate) fn square(self) -> u64
-        ensures value { result ≡ square self }
+        ensures value { result ≡ square self.value }
         ensures bound { result ≤ 65535 * 65535 }
     {
         let amount = u64::from(self.value.unsigned_abs());
@@ -63,7 +50,7 @@ impl Coordinate {
 impl Mul for Coordinate {
     type Output = i64;
 
-    ghost mul_gives = { λ a b product. (product ≡ a *ℤ b) × (unsigned_abs product ≤ 65535 * 65535) };
+    ghost mul_gives = { λ a b product. (product ≡ a.value *ℤ b.value) × (unsigned_abs product ≤ 65535 * 65535) };
 
     fn mul(self, other: Coordinate) -> i64 {
         i64::from(self.value) * i64::from(other.value)

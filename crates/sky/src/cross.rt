@@ -1,5 +1,7 @@
 // The square of the length of a cross product.
 ghost use Rattle.std.specs.Prelude.{◌≡◌, ◌+◌, ◌*◌, ◌^◌, ◌<◌, ◌-ℤ◌, ◌*ℤ◌, unsigned_abs};
+ghost use Rattle.wide.specs.Value.{value};
+ghost use Rattle.sky.specs.Directions.{vector};
 ghost use Rattle.sky.specs.Vectors.{length², cross};
 
 use crate::coordinate::Coordinate;
@@ -9,7 +11,7 @@ use wide::Wide;
 
 /// What a b less c d is in amount: a component of a cross product.
 fn component(a: Coordinate, b: Coordinate, c: Coordinate, d: Coordinate) -> u64
-    ensures amount { result ≡ unsigned_abs (a *ℤ b -ℤ c *ℤ d) }
+    ensures amount { result ≡ unsigned_abs (a.value *ℤ b.value -ℤ c.value *ℤ d.value) }
     ensures bound { result < 2 ^ 34 }
 {
     (a * b - c * d).unsigned_abs()
@@ -30,7 +32,7 @@ fn square_of(component: u64) -> Square
 
 /// 2^24 times the sum of three squares. No sum but the last needs two words.
 fn scaled_sum(x: Square, y: Square, z: Square) -> Wide
-    ensures { result ≡ 16777216 * (x + (y + z)) }
+    ensures { value result ≡ 16777216 * (x + (y + z)) }
 {
     let high = x.high + y.high + z.high;
     let mixed = x.mixed + y.mixed + z.mixed;
@@ -42,7 +44,7 @@ fn scaled_sum(x: Square, y: Square, z: Square) -> Wide
 
 /// 2^24 times the square of the length of two directions' cross product; below 2^92.
 pub(crate) fn scaled_cross(d: Direction, e: Direction) -> Wide
-    ensures { result ≡ 16777216 * length² (cross d e) }
+    ensures { value result ≡ 16777216 * length² (cross (vector d) (vector e)) }
 {
     scaled_sum(
         square_of(component(d.y, e.z, d.z, e.y)),

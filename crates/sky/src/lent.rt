@@ -1,6 +1,6 @@
 // Directions as they are lent: each coordinate with 65,536 added, three numbers one after another.
 ghost use Rattle.std.specs.Prelude.{◌≡◌, IfSome};
-ghost use Rattle.sky.specs.Directions.{DirectionOf};
+ghost use Rattle.sky.specs.Directions.{vector, DirectionOf};
 ghost use Rattle.sky.specs.Lent.{count, vectors};
 ghost use Rattle.sky.specs.Vectors.{Sound, star_at};
 
@@ -19,7 +19,7 @@ pub fn count(numbers: &[u32]) -> usize
 #[tactic(auto, using(crate::proofs::LentVectors::vectors_past, crate::proofs::LentVectors::direction_at))]
 pub fn direction_at(numbers: &[u32], i: usize) -> Option<Direction>
     ensures made { DirectionOf (star_at (vectors numbers.now) i) result }
-    ensures sound { IfSome result Sound }
+    ensures sound { IfSome result (λ d. Sound (vector d)) }
 {
     if i >= count(numbers) {
         return None;

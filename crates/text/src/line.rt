@@ -51,18 +51,23 @@ impl<'w> Rest<'w> {
             .map_or(Ok(()), |word| Err(self.expected.but_found(Some(word))))
     }
 
+    /// The coordinate of the next word, as it is lent, or `None` at the end of the line.
+    fn coordinate(&mut self) -> Result<Option<u32>, Fault<'w>> {
+        let word = self.words.next();
+        word.map(|word| coordinate(word).ok_or(self.expected.but_found(Some(word))))
+            .transpose()
+    }
+
     /// The three coordinates of a direction, as they are lent, or `None` where there are more or
     /// fewer. Every word has to be a coordinate.
-    pub(crate) fn direction(self) -> Result<Option<[u32; 3]>, Fault<'w>> {
-        let Rest { words, expected } = self;
-        let mut coordinates = words.map(|word| coordinate(word).ok_or(expected.but_found(Some(
-            word,
-        ))));
-        let x = coordinates.next().transpose()?;
-        let y = coordinates.next().transpose()?;
-        let z = coordinates.next().transpose()?;
-        let more = coordinates.next().transpose()?;
-        coordinates.try_for_each(|coordinate| coordinate.map(|_| ()))?;
+    pub(crate) fn direction(mut self) -> Result<Option<[u32; 3]>, Fault<'w>> {
+        let x = self.coordinate()?;
+        let y = self.coordinate()?;
+        let z = self.coordinate()?;
+        let more = self.coordinate()?;
+        self.words
+            .find(|word| coordinate(word).is_none())
+            .map_or(Ok(()), |word| Err(self.expected.but_found(Some(word))))?;
         Ok(match (x, y, z, more) {
             (Some(x), Some(y), Some(z), None) => Some([x, y, z]),
             _ => None,

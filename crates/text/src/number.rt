@@ -14,9 +14,11 @@ pub(crate) fn whole(word: &str) -> Option<u64> {
 /// coordinate is lent as, so that the check of the request turns it away: itself with 65,536 added,
 /// or 0 where that does not fit.
 pub(crate) fn coordinate(word: &str) -> Option<u32> {
-    whole(word.strip_prefix(['-', '+']).unwrap_or(word))?;
-    // A sign and digits fail only where the number does not fit.
     let coordinate: Option<i32> = word.parse().ok();
+    if coordinate.is_none() {
+        // A sign and digits fail only where the number does not fit.
+        whole(word.strip_prefix(['-', '+']).unwrap_or(word))?;
+    }
     let lent = coordinate.and_then(|c| ORIGIN.checked_add_signed(c));
     Some(lent.unwrap_or(0))
 }

@@ -1,5 +1,5 @@
 -- A part of a quotient, from the leading bits of the divisor and of the dividend.
-use Rattle.std.proofs.Common.{◌≡◌, ℕ, ◌+◌, ◌*◌, ◌/◌, ◌^◌, ◌<◌, ◌≤◌, sym, ap, subst, ⊎_elim, mul-le-mul_right, mul-le-mul_left, div-mul-le_self, arith}
+use Rattle.std.proofs.Common.{◌≡◌, ℕ, ◌+◌, ◌*◌, ◌/◌, ◌^◌, ◌<◌, ◌≤◌, sym, ap, subst, ⊎_elim, mul-le-mul_right, mul-le-mul, mul-le-mul_left, div-mul-le_self, arith}
 use Rattle.std.proofs.lemmas.Nat.{le-div, div_below, mod_below, pow_pos, shr_split, div-add-mod'}
 use Rattle.std.proofs.lemmas.Bool.{cases_lt}
 use Rattle.wide.specs.Divided.{Part}
@@ -37,3 +37,10 @@ module _ (n d t i m : ℕ) (p : 0 < d) (h : d ≤ t * 2 ^ i) (l : m ≡ n / 2 ^ 
 -- ---- with p more in the quotient, p d less is left
 pub again : (d q r p m q₂ r₂ : ℕ) → m ≡ p * d → r₂ + m ≡ r → q₂ ≡ q + p → q₂ * d + r₂ ≡ q * d + r
 again d q r p m q₂ r₂ e f g = omega (arith, ap (λ v. v * d) g)
+
+pub room : (d q r p b : ℕ) → 0 < d → p * d ≤ r → q * d + r < b → q + p < b
+room d q r p b z t k = omega (arith, t, mul-le-mul_left (q + p) z)
+
+-- where p is not 0, less is left
+pub less : (d r p r₂ : ℕ) → 0 < d → 0 < p → r₂ + p * d ≡ r → r₂ < r
+less d r p r₂ z s e = omega (arith, mul-le-mul {n₁ = 1} {m₁ = 1} s z)

@@ -1,6 +1,7 @@
 // Quotient and remainder.
 ghost use Rattle.std.specs.Prelude.{◌≡◌, MatchOption};
 ghost use Rattle.wide.specs.Divided.{Divided};
+ghost use Rattle.wide.specs.Value.{value};
 
 use crate::divisor::Divisor;
 use crate::long_division::LongDivision;
@@ -17,7 +18,7 @@ impl Wide {
     /// Quotient and remainder. A quotient below 2^32 takes one division of words, and the divisor is
     /// taken off three times at most.
     pub fn divided_by(self, divisor: Divisor) -> Division
-        ensures { Divided self divisor.number result.quotient result.remainder }
+        ensures { Divided (value self) (value divisor.number) (value result.quotient) (value result.remainder) }
     {
         let mut division = LongDivision::new(self, divisor);
         division.take_high_parts();
@@ -31,7 +32,7 @@ impl Wide {
 
     /// Quotient and remainder, or `None` where the divisor is 0.
     pub fn checked_div_rem(self, divisor: Wide) -> Option<Division>
-        ensures { MatchOption result (divisor ≡ 0) (λ d. Divided self divisor d.quotient d.remainder) }
+        ensures { MatchOption result (value divisor ≡ 0) (λ d. Divided (value self) (value divisor) (value d.quotient) (value d.remainder)) }
     {
         Some(self.divided_by(Divisor::new(divisor)?))
     }

@@ -1,6 +1,7 @@
 // A number that can be divided by.
 ghost use Rattle.std.specs.Prelude.{◌≡◌, ◌+◌, ◌*◌, ◌^◌, ◌<◌, ◌≤◌, MatchOption};
 ghost use Rattle.wide.specs.Leading.{Past32};
+ghost use Rattle.wide.specs.Value.{value};
 
 use crate::wide::Wide;
 
@@ -11,9 +12,9 @@ pub struct Divisor {
     pub(crate) number: Wide,
     pub(crate) top: u64,
     pub(crate) shift: u32,
-    ghost positive: { 0 < number },
-    ghost covers: { number ≤ top * 2 ^ shift },
-    ghost near: { top * 2 ^ shift * 2 ^ 31 ≤ number * (2 ^ 31 + 1) },
+    ghost positive: { 0 < value number },
+    ghost covers: { value number ≤ top * 2 ^ shift },
+    ghost near: { top * 2 ^ shift * 2 ^ 31 ≤ value number * (2 ^ 31 + 1) },
     ghost short: { top ≤ 2 ^ 32 },
     ghost bound: { shift ≤ 96 },
 }
@@ -22,7 +23,7 @@ impl Divisor {
     /// The number as a divisor, or `None` where it is 0.
     #[tactic(auto, using(crate::proofs::Bits::none_left))]
     pub fn new(number: Wide) -> Option<Divisor>
-        ensures { MatchOption result (number ≡ 0) (λ d. d.number ≡ number) }
+        ensures { MatchOption result (value number ≡ 0) (λ d. d.number ≡ number) }
     {
         let shift = bits_past_32(number);
         let lead = number.without_last(shift).low;
@@ -38,7 +39,7 @@ impl Divisor {
 /// How many bits a number has past its first 32.
 #[tactic(auto, using(crate::proofs::Bits::past_32))]
 fn bits_past_32(number: Wide) -> u32
-    ensures past { Past32 number result }
+    ensures past { Past32 (value number) result }
     ensures bound { result ≤ 96 }
 {
     96u32.saturating_sub(u128::from(number).leading_zeros())

@@ -17,7 +17,7 @@ pub use wide::Wide;
 #[cfg(test)]
 mod tests {
     // Quotients of four lengths and their remainders, as another program has them.
-    use crate::Wide;
+    use crate::{Divisor, Wide};
     use std::process::Abort;
     use std::test::Fail;
 
@@ -25,6 +25,8 @@ mod tests {
         high: u64::MAX,
         low: u64::MAX,
     };
+
+    static SEVEN: Wide = Wide { high: 0, low: 7 };
 
     fn divides(
         rt: &impl Abort,
@@ -80,5 +82,15 @@ mod tests {
         };
         divides(&rt, MOST, d, Wide { high: 0, low: 14 }, r)?;
         divides(&rt, d, MOST, Wide { high: 0, low: 0 }, d)
+    }
+
+    #[test]
+    fn one_divisor_for_two_numbers(rt: HostRuntime) -> Result<(), Fail> {
+        let divisor = Divisor::new(SEVEN).ok_or("no divisor")?;
+        let most = MOST.divided_by(divisor);
+        let seven = SEVEN.divided_by(divisor);
+        assert_eq!(rt; most.remainder, Wide { high: 0, low: 3 });
+        assert_eq!(rt; seven.quotient, Wide { high: 0, low: 1 });
+        Ok(())
     }
 }

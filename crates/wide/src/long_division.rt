@@ -1,5 +1,6 @@
 // A long division, step by step.
 ghost use Rattle.std.specs.Prelude.{◌≡◌, ◌+◌, ◌*◌, ◌^◌, ◌<◌, ◌≤◌, ◌↔◌, IsTrue, MatchOption};
+ghost use Rattle.wide.specs.Value.{value};
 
 use crate::divisor::Divisor;
 use crate::wide::Wide;
@@ -10,7 +11,7 @@ pub(crate) struct LongDivision {
     pub(crate) quotient: Wide,
     pub(crate) remainder: Wide,
     pub(crate) divisor: Divisor,
-    ghost fits: { quotient * divisor.number + remainder < 2 ^ 128 },
+    ghost fits: { value quotient * value divisor.number + value remainder < 2 ^ 128 },
 }
 
 impl LongDivision {
@@ -19,7 +20,7 @@ impl LongDivision {
 
     /// A number of which nothing was taken yet.
     pub(crate) fn new(number: Wide, divisor: Divisor) -> LongDivision
-        ensures dividend { dividend result ≡ number }
+        ensures dividend { dividend result ≡ value number }
         ensures divisor { result.divisor ≡ divisor }
     {
         LongDivision {
@@ -31,9 +32,9 @@ impl LongDivision {
 
     /// Takes the divisor off `part` times: the quotient grows by what the remainder loses.
     fn take_off(&mut self, part: Wide)
-        requires { part * self.old.divisor.number ≤ self.old.remainder }
+        requires { value part * value self.old.divisor.number ≤ value self.old.remainder }
         ensures same { SameDivision self.old self.new }
-        ensures less { self.new.remainder + part * self.old.divisor.number ≡ self.old.remainder }
+        ensures less { value self.new.remainder + value part * value self.old.divisor.number ≡ value self.old.remainder }
     {
         let taken = part.times(self.divisor.number);
         self.quotient = self.quotient.checked_add(part).unwrap();
@@ -42,7 +43,7 @@ impl LongDivision {
 
     /// A part of a long quotient, from the leading bits alone; none where the quotient is short.
     fn high_part(&self) -> Option<Wide>
-        ensures { MatchOption result (IsShort self.now) (λ p. Part self.now.remainder self.now.divisor.number p × (IsShort self.now → ⊥)) }
+        ensures { MatchOption result (IsShort self.now) (λ p. Part (value self.now.remainder) (value self.now.divisor.number) (value p) × (IsShort self.now → ⊥)) }
     {
         let top = self.divisor.top;
         let lead = self.remainder.without_last(self.divisor.shift);
@@ -73,8 +74,8 @@ impl LongDivision {
     #[tactic(auto, using(crate::proofs::Parts::near_part))]
     fn low_part(&self) -> u32
         requires { IsShort self.now }
-        ensures fits { result * self.now.divisor.number ≤ self.now.remainder }
-        ensures near { self.now.remainder < (result + 3) * self.now.divisor.number }
+        ensures fits { result * value self.now.divisor.number ≤ value self.now.remainder }
+        ensures near { value self.now.remainder < (result + 3) * value self.now.divisor.number }
     {
         let lead = self.remainder.without_last(self.divisor.shift);
         (lead.low / self.divisor.top) as u32
@@ -84,7 +85,7 @@ impl LongDivision {
     pub(crate) fn take_low_part(&mut self)
         requires { IsShort self.old }
         ensures same { SameDivision self.old self.new }
-        ensures near { self.new.remainder < 3 * self.new.divisor.number }
+        ensures near { value self.new.remainder < 3 * value self.new.divisor.number }
     {
         let part = self.low_part();
         self.take_off(Wide::from(u64::from(part)));
@@ -92,16 +93,16 @@ impl LongDivision {
 
     /// Whether the divisor goes no more into what is left.
     fn is_done(&self) -> bool
-        ensures { IsTrue result ↔ (self.now.remainder < self.now.divisor.number) }
+        ensures { IsTrue result ↔ (value self.now.remainder < value self.now.divisor.number) }
     {
         self.remainder < self.divisor.number
     }
 
     /// Takes the divisor off twice at most.
     pub(crate) fn take_last_two(&mut self)
-        requires { self.old.remainder < 3 * self.old.divisor.number }
+        requires { value self.old.remainder < 3 * value self.old.divisor.number }
         ensures same { SameDivision self.old self.new }
-        ensures small { self.new.remainder < self.new.divisor.number }
+        ensures small { value self.new.remainder < value self.new.divisor.number }
     {
         // No `while`: that two turns suffice is part of what is proved.
         for _turn in 0..2u32 {

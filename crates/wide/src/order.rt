@@ -2,14 +2,22 @@
 ghost use Rattle.std.specs.Prelude.{◌==◌};
 ghost use Rattle.std.specs.Cmp.{partial_equiv_from_equiv, partial_order_from_own_ties};
 ghost use Rattle.std.specs.Cmp.Rules.{comparing};
-ghost use Rattle.std.specs.Ordering.{nat_cmp, as_partial_cmp};
+ghost use Rattle.std.specs.Ordering.{nat_cmp, on, as_partial_cmp};
 ghost use Rattle.std.proofs.Common.{rules};
+ghost use Rattle.wide.specs.Value.{value, Compared};
 
 use crate::wide::Wide;
 use std::cmp::Ordering;
 
+/// How two numbers compare: by their high words, and then by their low ones.
+fn compare(a: Wide, b: Wide) -> Ordering
+    ensures { Compared a b result }
+{
+    (a.high, a.low).cmp(&(b.high, b.low))
+}
+
 impl PartialEq for Wide {
-    ghost eq = { ◌==◌ };
+    ghost eq = { on value ◌==◌ };
 
     ghost laws = { partial_equiv_from_equiv (Prim.search (comparing, rules)) };
 
@@ -23,7 +31,7 @@ impl Eq for Wide {
 }
 
 impl PartialOrd for Wide {
-    ghost partial_cmp = { as_partial_cmp nat_cmp };
+    ghost partial_cmp = { as_partial_cmp (on value nat_cmp) };
 
     ghost laws = { partial_order_from_own_ties (Prim.search (comparing, rules)) (Prim.search (comparing, rules)) };
 
@@ -33,7 +41,7 @@ impl PartialOrd for Wide {
 }
 
 impl Ord for Wide {
-    ghost cmp = { nat_cmp };
+    ghost cmp = { on value nat_cmp };
 
     ghost total = { Prim.search (comparing, rules) };
 
@@ -41,8 +49,7 @@ impl Ord for Wide {
 
     ghost matches_eq = { Prim.search (comparing, rules) };
 
-    // By the high words, and then by the low ones.
     fn cmp(&self, other: &Wide) -> Ordering {
-        (self.high, self.low).cmp(&(other.high, other.low))
+        compare(*self, *other)
     }
 }

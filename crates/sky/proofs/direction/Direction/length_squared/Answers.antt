@@ -9,4 +9,4 @@ returns-clause-value c = search rules
 
 pub returns-clause-positive : goal.returns-clause-positive
 unfolding length²
-returns-clause-positive c = omega (arith, length_positive _ c.self.invariant)
+returns-clause-positive c = omega (arith, length_positive _ c.args.self.sound)

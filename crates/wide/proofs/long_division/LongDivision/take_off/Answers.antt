@@ -1,6 +1,13 @@
-use Rattle.std.proofs.Common.{refl, arith}
-use Rattle.wide.proofs.Parts.{again}
+use Rattle.std.proofs.Common.{◌+◌, ◌^◌, ◌<◌, refl, rules, arith}
+use Rattle.wide.specs.Value.{value}
+use Rattle.wide.proofs.Parts.{again, room}
 use Rattle.wide.proofs.long_division.LongDivision.take_off.Goals as goal
+
+pub unwrap-self-requires : goal.unwrap-self-requires
+unwrap-self-requires c =
+    let d = c.args.self.now in
+    let r : value d.quotient + value c.args.part < 2 ^ 128 = room _ _ _ _ _ d.divisor.positive c.requires d.fits in
+    search rules
 
 pub invariant_of-self : goal.invariant_of-self
 invariant_of-self c =
