@@ -61,16 +61,20 @@ impl<'w> Rest<'w> {
     /// The three coordinates of a direction, as they are lent, or `None` where there are more or
     /// fewer. Every word has to be a coordinate.
     pub(crate) fn direction(mut self) -> Result<Option<[u32; 3]>, Fault<'w>> {
-        let x = self.coordinate()?;
-        let y = self.coordinate()?;
-        let z = self.coordinate()?;
-        let more = self.coordinate()?;
+        let Some(x) = self.coordinate()? else {
+            return Ok(None);
+        };
+        let Some(y) = self.coordinate()? else {
+            return Ok(None);
+        };
+        let Some(z) = self.coordinate()? else {
+            return Ok(None);
+        };
+        if self.coordinate()?.is_none() {
+            return Ok(Some([x, y, z]));
+        }
         self.words
             .find(|word| coordinate(word).is_none())
-            .map_or(Ok(()), |word| Err(self.expected.but_found(Some(word))))?;
-        Ok(match (x, y, z, more) {
-            (Some(x), Some(y), Some(z), None) => Some([x, y, z]),
-            _ => None,
-        })
+            .map_or(Ok(None), |word| Err(self.expected.but_found(Some(word))))
     }
 }
