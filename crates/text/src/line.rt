@@ -52,7 +52,7 @@ impl<'w> Rest<'w> {
     }
 
     /// The coordinate of the next word, as it is lent, or `None` at the end of the line.
-    fn coordinate(&mut self) -> Result<Option<u32>, Fault<'w>> {
+    fn next_coordinate(&mut self) -> Result<Option<u32>, Fault<'w>> {
         let word = self.words.next();
         word.map(|word| coordinate(word).ok_or(self.expected.but_found(Some(word))))
             .transpose()
@@ -61,16 +61,16 @@ impl<'w> Rest<'w> {
     /// The three coordinates of a direction, as they are lent, or `None` where there are more or
     /// fewer. Every word has to be a coordinate.
     pub(crate) fn direction(mut self) -> Result<Option<[u32; 3]>, Fault<'w>> {
-        let Some(x) = self.coordinate()? else {
+        let Some(x) = self.next_coordinate()? else {
             return Ok(None);
         };
-        let Some(y) = self.coordinate()? else {
+        let Some(y) = self.next_coordinate()? else {
             return Ok(None);
         };
-        let Some(z) = self.coordinate()? else {
+        let Some(z) = self.next_coordinate()? else {
             return Ok(None);
         };
-        if self.coordinate()?.is_none() {
+        if self.next_coordinate()?.is_none() {
             return Ok(Some([x, y, z]));
         }
         self.words

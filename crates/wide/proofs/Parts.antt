@@ -38,6 +38,7 @@ module _ (n d t i m : ℕ) (p : 0 < d) (h : d ≤ t * 2 ^ i) (l : m ≡ n / 2 ^ 
 pub again : (d q r p m q₂ r₂ : ℕ) → m ≡ p * d → r₂ + m ≡ r → q₂ ≡ q + p → q₂ * d + r₂ ≡ q * d + r
 again d q r p m q₂ r₂ e f g = omega (arith, ap (λ v. v * d) g)
 
+-- and the quotient has room
 pub room : (d q r p b : ℕ) → 0 < d → p * d ≤ r → q * d + r < b → q + p < b
 room d q r p b z t k = omega (arith, t, mul-le-mul_left (q + p) z)
 

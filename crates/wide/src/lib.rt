@@ -26,6 +26,7 @@ mod tests {
         low: u64::MAX,
     };
 
+    // A static, and a divisor that serves twice below: callers may do both with these types.
     static SEVEN: Wide = Wide { high: 0, low: 7 };
 
     fn divides(

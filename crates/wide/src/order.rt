@@ -9,7 +9,8 @@ ghost use Rattle.wide.specs.Value.{value, Compared};
 use crate::wide::Wide;
 use std::cmp::Ordering;
 
-/// How two numbers compare: by their high words, and then by their low ones.
+/// How two numbers compare: by their high words, and then by their low ones. They are taken by
+/// value, since a field behind a reference is not known to be a word.
 fn compare(a: Wide, b: Wide) -> Ordering
     ensures { Compared a b result }
 {
